@@ -1,4 +1,5 @@
 pub mod CheckLemmas
+pub mod FillLemmas
 mod PlayLemmas
 pub mod RunLemmas
 pub mod GainLemmas

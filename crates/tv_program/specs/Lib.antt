@@ -2,6 +2,10 @@
 pub mod CheckRun
 -- Faults handed on
 pub mod Conversions
+-- Faults of filling handed on
+pub mod FillFaults
+-- What filling a description with answers comes to
+pub mod Filling
 -- What a run of a description and a script comes to
 pub mod Playing
 -- What is read of a description, and why it is refused

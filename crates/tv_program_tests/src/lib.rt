@@ -2,6 +2,8 @@
 #![tactic(auto)]
 
 #[cfg(test)]
+mod answers;
+#[cfg(test)]
 mod building;
 #[cfg(test)]
 mod calls;
@@ -13,6 +15,8 @@ mod constructors;
 mod copies;
 #[cfg(test)]
 mod each_fault;
+#[cfg(test)]
+mod filling;
 #[cfg(test)]
 mod makers;
 #[cfg(test)]
