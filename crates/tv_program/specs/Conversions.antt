@@ -16,6 +16,8 @@ use Rattle.tv_program.specs.declared.accept_fault.AcceptFault.{AcceptFault}
 use Rattle.tv_program.specs.declared.accept_fault.AcceptFault.TheVariants as accepts
 use Rattle.tv_program.specs.declared.check_fault.CheckFault.{CheckFault}
 use Rattle.tv_program.specs.declared.check_fault.CheckFault.TheVariants as checks
+use Rattle.tv_program.specs.declared.fill_fault.FillFault.{FillFault}
+use Rattle.tv_program.specs.declared.fill_fault.FillFault.TheVariants as fills
 use Rattle.tv_program.specs.declared.trouble.Trouble.{Trouble}
 use Rattle.tv_program.specs.declared.trouble.Trouble.TheVariants as told
 use Rattle.tv_program.specs.declared.run_fault.RunFault.{RunFault}
@@ -124,3 +126,11 @@ run_told (runs.Script fault) = told.Script fault
 run_told runs.View = told.View
 run_told runs.Read = told.Read
 run_told runs.Write = told.Write
+
+-- a fault of filling
+abbrev pub fill_told : FillFault → Trouble
+fill_told fills.NoMemory = told.NoMemory
+fill_told (fills.Lang fault) = told.Lang fault
+fill_told (fills.Faults list) = told.Faults list
+fill_told (fills.Answers fault) = told.Answers fault
+fill_told fills.Write = told.Write

@@ -1,5 +1,7 @@
 -- What is told of a call that didn't come to its end.
 use Rattle.std.specs.Prelude.{ℕ, List, [], ◌++◌, ◌⊎◌, flat_map, codes, decimal, encode_utf8}
+use Rattle.tv_answers.specs.declared.reading.AnswersFault.{AnswersFault}
+use Rattle.tv_answers.specs.declared.reading.AnswersFault.TheVariants as answers
 use Rattle.tv_check.specs.declared.acceptance.Refusal.{Refusal}
 use Rattle.tv_check.specs.declared.acceptance.Refusal.TheVariants as refusals
 use Rattle.tv_certificate.specs.declared.reading.CertificateFault.{CertificateFault}
@@ -10,8 +12,8 @@ use Rattle.tv_model.specs.declared.fault.Fault.{Fault}
 use Rattle.tv_model.specs.Faults.{fault_number}
 use Rattle.tv_model.specs.Log.LogText.{line_of}
 use Rattle.tv_program.specs.declared.trouble.Trouble.{Trouble}
-use Rattle.tv_program.specs.declared.trouble.Trouble.TheVariants.{NoMemory, Lang, Faults, Script, Write, Read}
-use Rattle.tv_program.specs.declared.trouble.Trouble.TheVariants.{Cert, Refused, View}
+use Rattle.tv_program.specs.declared.trouble.Trouble.TheVariants.{NoMemory, Lang, Faults, Script, Answers}
+use Rattle.tv_program.specs.declared.trouble.Trouble.TheVariants.{Write, Read, Cert, Refused, View}
 use Rattle.tv_io.specs.Writer.{Seen, Takes, Cuts}
 use Rattle.tv_script.specs.declared.script_text.ScriptFault.{ScriptFault}
 use Rattle.tv_script.specs.declared.script_text.ScriptFault.TheVariants as scripts
@@ -64,12 +66,18 @@ cert_message name certificates.NoMemory = line_of (codes "tvdlg: ") (codes "no m
 cert_message name (certificates.Syntax line) = syntax_message name line
 cert_message name certificates.TooLong = line_of (codes "tvdlg: ") (name ++ codes ": too long")
 
+abbrev pub answers_message : List ℕ → AnswersFault → List ℕ
+answers_message name answers.NoMemory = line_of (codes "tvdlg: ") (codes "no memory")
+answers_message name (answers.Syntax line) = syntax_message name line
+answers_message name answers.TooLong = line_of (codes "tvdlg: ") (name ++ codes ": too long")
+
 -- the message on standard error, with the bytes of the file's name
 abbrev pub err_text : List ℕ → Trouble → List ℕ
 err_text name NoMemory = line_of (codes "tvdlg: ") (codes "no memory")
 err_text name (Lang fault) = lang_message name fault
 err_text name (Faults list) = []
 err_text name (Script fault) = script_message name fault
+err_text name (Answers fault) = answers_message name fault
 err_text name (Cert fault) = cert_message name fault
 err_text name (Refused refusals.NoMemory) = line_of (codes "tvdlg: ") (codes "no memory")
 err_text name (Refused refusal) = []
@@ -90,6 +98,10 @@ abbrev pub cert_status : CertificateFault → ℕ
 cert_status certificates.NoMemory = 3
 cert_status _ = 1
 
+abbrev pub answers_status : AnswersFault → ℕ
+answers_status answers.NoMemory = 3
+answers_status _ = 1
+
 abbrev pub refusal_status : Refusal → ℕ
 refusal_status refusals.NoMemory = 3
 refusal_status _ = 1
@@ -99,6 +111,7 @@ status_of NoMemory = 3
 status_of (Lang fault) = lang_status fault
 status_of (Faults list) = 1
 status_of (Script fault) = script_status fault
+status_of (Answers fault) = answers_status fault
 status_of (Cert fault) = cert_status fault
 status_of (Refused refusal) = refusal_status refusal
 status_of View = 1

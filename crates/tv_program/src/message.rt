@@ -3,9 +3,10 @@
 ghost use Rattle.std.specs.Prelude.{◌≡◌, ◌++◌, ◌∷◌, [], codes, flat_map, decimal, encode_utf8};
 ghost use Rattle.tv_model.specs.Log.LogText.{line_of};
 ghost use Rattle.tv_io.specs.Pen.{Puts};
-ghost use Rattle.tv_program.specs.Report.{IsOffered, cert_message, fault_line, lang_message, lang_status, line_message, out_text, err_text, refusal_text, script_message, status_of};
+ghost use Rattle.tv_program.specs.Report.{IsOffered, answers_message, cert_message, fault_line, lang_message, lang_status, line_message, out_text, err_text, refusal_text, script_message, status_of};
 
 use crate::trouble::Trouble;
+use tv_answers::AnswersFault;
 use tv_check::{CertificateFault, Refusal};
 use tv_io::{Pen, Writer};
 use tv_lang::LangFault;
@@ -42,6 +43,7 @@ fn status(fault: &Trouble) -> u8
         Trouble::NoMemory
         | Trouble::Lang(LangFault::NoMemory)
         | Trouble::Script(ScriptFault::NoMemory)
+        | Trouble::Answers(AnswersFault::NoMemory)
         | Trouble::Cert(CertificateFault::NoMemory)
         | Trouble::Refused(Refusal::NoMemory)
         | Trouble::Write
@@ -49,6 +51,7 @@ fn status(fault: &Trouble) -> u8
         Trouble::Lang(_)
         | Trouble::Faults(_)
         | Trouble::Script(_)
+        | Trouble::Answers(_)
         | Trouble::Cert(_)
         | Trouble::Refused(_)
         | Trouble::View => 1,
@@ -135,6 +138,7 @@ fn put_message<W: Writer>(pen: &mut Pen<W>, name: &[u8], fault: &Trouble)
         Trouble::Refused(Refusal::NoMemory) => put_plain(pen, b"no memory"),
         Trouble::Refused(_) => {}
         Trouble::Script(fault) => put_script(pen, name, *fault),
+        Trouble::Answers(fault) => put_answers(pen, name, *fault),
         Trouble::View => put_plain(pen, b"view refused"),
         Trouble::Read => put_named(pen, b"cannot read ", name),
         Trouble::Write => put_plain(pen, b"cannot write"),
@@ -160,6 +164,16 @@ fn put_script<W: Writer>(pen: &mut Pen<W>, name: &[u8], fault: ScriptFault)
         ScriptFault::Syntax(line) => put_line(pen, name, SYNTAX, line),
         ScriptFault::OffScreen(line) => put_line(pen, name, b": off screen at line ", line),
         ScriptFault::TooLong => put_named(pen, name, b": too long"),
+    }
+}
+
+fn put_answers<W: Writer>(pen: &mut Pen<W>, name: &[u8], fault: AnswersFault)
+    ensures { Puts W.seen pen.old pen.new (answers_message name.now fault) }
+{
+    match fault {
+        AnswersFault::NoMemory => put_plain(pen, b"no memory"),
+        AnswersFault::Syntax(line) => put_line(pen, name, SYNTAX, line),
+        AnswersFault::TooLong => put_named(pen, name, b": too long"),
     }
 }
 

@@ -2,12 +2,14 @@
 
 ghost use Rattle.std.specs.Prelude.{◌≡◌};
 ghost use Rattle.tv_program.specs.declared.trouble.Trouble.TheVariants.{NoMemory};
-ghost use Rattle.tv_program.specs.Conversions.{accept_told, check_told, lang_told, run_told};
+ghost use Rattle.tv_program.specs.Conversions.{accept_told, check_told, fill_told, lang_told, run_told};
 
 use crate::accept_fault::AcceptFault;
 use crate::check_fault::CheckFault;
+use crate::fill_fault::FillFault;
 use crate::run_fault::RunFault;
 use std::alloc::AllocError;
+use tv_answers::AnswersFault;
 use tv_check::{CertificateFault, Refusal};
 use tv_lang::LangFault;
 use tv_model::{Fault, Sequence};
@@ -25,6 +27,8 @@ pub enum Trouble {
     Faults(Sequence<Fault>),
     /// The script is not spelled right.
     Script(ScriptFault),
+    /// The answers are not spelled right.
+    Answers(AnswersFault),
     /// The writer failed, or took nothing.
     Write,
     /// A file can't be opened or read.
@@ -95,6 +99,20 @@ impl From<RunFault> for Trouble {
             RunFault::View => Trouble::View,
             RunFault::Read => Trouble::Read,
             RunFault::Write => Trouble::Write,
+        }
+    }
+}
+
+impl From<FillFault> for Trouble {
+    ghost from_gives = { λ fault told. told ≡ fill_told fault };
+
+    fn from(fault: FillFault) -> Trouble {
+        match fault {
+            FillFault::NoMemory => Trouble::NoMemory,
+            FillFault::Lang(unread) => Trouble::Lang(unread),
+            FillFault::Faults(list) => Trouble::Faults(list),
+            FillFault::Answers(unread) => Trouble::Answers(unread),
+            FillFault::Write => Trouble::Write,
         }
     }
 }

@@ -3,6 +3,7 @@
 use crate::calls::{report_into, run_into};
 use std::alloc::Global;
 use std::test::Fail;
+use tv_answers::AnswersFault;
 use tv_check::CertificateFault;
 use tv_lang::LangFault;
 use tv_program::Trouble;
@@ -22,7 +23,7 @@ fn expect_report(alloc: Global, fault: &Trouble, message: &str, status: u8) -> R
     Err(Fail::new(format_args!("{fault:?}: status {answer}")))
 }
 
-const ON_TEXTS: [(Trouble, &str); 9] = [
+const ON_TEXTS: [(Trouble, &str); 11] = [
     (
         Trouble::Lang(LangFault::Syntax(2)),
         "tvdlg: NAME: syntax at line 2\n",
@@ -45,6 +46,14 @@ const ON_TEXTS: [(Trouble, &str); 9] = [
         "tvdlg: NAME: too long\n",
     ),
     (
+        Trouble::Answers(AnswersFault::Syntax(3)),
+        "tvdlg: NAME: syntax at line 3\n",
+    ),
+    (
+        Trouble::Answers(AnswersFault::TooLong),
+        "tvdlg: NAME: too long\n",
+    ),
+    (
         Trouble::Cert(CertificateFault::Syntax(7)),
         "tvdlg: NAME: syntax at line 7\n",
     ),
@@ -63,9 +72,13 @@ fn reports_on_texts(rt: HostRuntime) -> Result<(), Fail> {
     Ok(())
 }
 
-const ON_MEMORY_AND_DEVICES: [(Trouble, &str); 5] = [
+const ON_MEMORY_AND_DEVICES: [(Trouble, &str); 6] = [
     (Trouble::Lang(LangFault::NoMemory), "tvdlg: no memory\n"),
     (Trouble::Script(ScriptFault::NoMemory), "tvdlg: no memory\n"),
+    (
+        Trouble::Answers(AnswersFault::NoMemory),
+        "tvdlg: no memory\n",
+    ),
     (Trouble::NoMemory, "tvdlg: no memory\n"),
     (Trouble::Read, "tvdlg: cannot read NAME\n"),
     (Trouble::Write, "tvdlg: cannot write\n"),
