@@ -22,7 +22,7 @@ use Rattle.tv_program.specs.Terminal.PlaysText.{refused as refused_play, unbegun
 use Rattle.tv_files.specs.declared.done.Done.{Done}
 use Rattle.tv_files.specs.declared.no_task.NoTask.{NoTask}
 use Rattle.tv_files.specs.declared.task.Task.{Task}
-use Rattle.tv_files.specs.declared.task.Task.TheVariants.{Check, Accept, Run, Play, Picture, PictureAll, Explain, ExplainBoth, Version}
+use Rattle.tv_files.specs.declared.task.Task.TheVariants.{Check, Accept, Run, Play, Picture, PictureAll, Fill, Explain, ExplainBoth, Version}
 use Rattle.tv_files.specs.Ends.{End}
 use Rattle.tv_files.specs.EndsWith.{EndsWith}
 use Rattle.tv_files.specs.Files.{Known}
@@ -115,6 +115,7 @@ module _ (P Q : Desc → Type 0) (weaker : (text : List ℕ) (d : Desc) → IsSo
       (came.0, came.1, PicturesFiles-weaker old.files new.files file.now script.now old.out new.out end came.2)
   Performs-weaker (PictureAll file script) old new how end came =
       (came.0, came.1, PicturesAll-weaker old.files new.files file.now script.now old.album new.album end came.2)
+  Performs-weaker (Fill file answers) old new how end came = came
   Performs-weaker (Explain file manner) old new how end came = came
   Performs-weaker (ExplainBoth file other manner) old new how end came = came
   Performs-weaker Version old new how end came = came

@@ -3,7 +3,7 @@ use Rattle.std.proofs.Common.{◌≡◌, ℕ, ◌+◌, List, [], ◌∷◌, ◌+
 use Rattle.tv_io.specs.Reader.{Given}
 use Rattle.tv_io.specs.Reading.{IsRead}
 use Rattle.tv_files.specs.Ends.{End}
-use Rattle.tv_files.specs.Files.{Extends, IsFileOf, Known, Opens, longest}
+use Rattle.tv_files.specs.Files.{Extends, IsFileOf, Known, Opens}
 use Rattle.tv_files.specs.Tasks.{BreaksOffIn, GivesText, IsUngiven, IsUnopened, IsUnread}
 use Rattle.tv_files.specs.Tasks.IsUngiven.{memory as ungiven_memory, broken as ungiven_broken}
 use Rattle.tv_files.specs.Tasks.IsUnopened.{memory, missing}
@@ -28,7 +28,7 @@ module _ {files mid : Known} (file beside : List ℕ) (opens : Opens files mid (
   pub IsFileOf-then : {reader : Given} → IsFileOf mid beside reader → IsFileOf files beside reader
   IsFileOf-then is = record { left = rw (opens.same beside) at is.left; going = is.going; unfailed = is.unfailed }
 
-  BreaksOffIn-then : BreaksOffIn mid beside → BreaksOffIn files beside
+  BreaksOffIn-then : {limit : ℕ} → BreaksOffIn limit mid beside → BreaksOffIn limit files beside
   BreaksOffIn-then breaks = record { reader = breaks.reader; left = breaks.left; file = IsFileOf-then breaks.file; breaks = breaks.breaks }
 
 module _ {files mid after : Known} (file beside : List ℕ) (opens : Opens files mid (file ∷ [])) where
@@ -37,7 +37,7 @@ module _ {files mid after : Known} (file beside : List ℕ) (opens : Opens files
   Opens-both = Opens-then (file ∷ []) (beside ∷ []) opens
 
   -- the second file was read
-  pub Gives-then : {text : List ℕ} → GivesText mid after (beside ∷ []) beside text → GivesText files after (file ∷ beside ∷ []) beside text
+  pub Gives-then : {limit : ℕ} {text : List ℕ} → GivesText limit mid after (beside ∷ []) beside text → GivesText limit files after (file ∷ beside ∷ []) beside text
   Gives-then gives = record {
     opens = Opens-both gives.opens;
     text_of = rw (opens.same beside) at gives.text_of;
@@ -49,22 +49,22 @@ module _ {files mid after : Known} (file beside : List ℕ) (opens : Opens files
   IsUnopened-then (missing opened none is) = missing (Opens-both opened) (rw (opens.same beside) at none) is
 
   -- the second file wasn't read
-  pub IsUnread-then : {end : End} → IsUnread mid after (beside ∷ []) beside end → IsUnread files after (file ∷ beside ∷ []) beside end
+  pub IsUnread-then : {limit : ℕ} {end : End} → IsUnread limit mid after (beside ∷ []) beside end → IsUnread limit files after (file ∷ beside ∷ []) beside end
   IsUnread-then (unopened is) = unopened (IsUnopened-then is)
   IsUnread-then (broken opened breaks is) = broken (Opens-both opened) (BreaksOffIn-then file beside opens breaks) is
 
 -- ---- reading
 
-text-of : (contents left : Option (List ℕ)) (text : List ℕ) → IfSome contents (λ whole. left ≡ Some whole) → IfSome left (λ all. text ≡ take (longest + 1) all) → IfSome contents (λ whole. text ≡ take (longest + 1) whole)
-text-of None left text is first = tt
-text-of (Some whole) left text is first = subst (λ given. IfSome given (λ all. text ≡ take (longest + 1) all)) is first
+text-of : (limit : ℕ) (contents left : Option (List ℕ)) (text : List ℕ) → IfSome contents (λ whole. left ≡ Some whole) → IfSome left (λ all. text ≡ take (limit + 1) all) → IfSome contents (λ whole. text ≡ take (limit + 1) whole)
+text-of limit None left text is first = tt
+text-of limit (Some whole) left text is first = subst (λ given. IfSome given (λ all. text ≡ take (limit + 1) all)) is first
 
-module _ {files after : Known} {opened : List (List ℕ)} (path : List ℕ) (reader left : Given) (opens : Opens files after opened) (is : IsFileOf files path reader) where
+module _ {files after : Known} {opened : List (List ℕ)} (limit : ℕ) (path : List ℕ) (reader left : Given) (opens : Opens files after opened) (is : IsFileOf files path reader) where
   -- the file's text was read
-  pub IsRead-Gives : (text : List ℕ) → IsRead longest reader left text → GivesText files after opened path text
-  IsRead-Gives text read = record { opens = opens; text_of = text-of (files.contents path) reader.left text is.left read.first }
+  pub IsRead-Gives : (text : List ℕ) → IsRead limit reader left text → GivesText limit files after opened path text
+  IsRead-Gives text read = record { opens = opens; text_of = text-of limit (files.contents path) reader.left text is.left read.first }
 
   -- it wasn't
-  pub IsUngiven-IsUnread : {end : End} → IsUngiven reader left path end → IsUnread files after opened path end
+  pub IsUngiven-IsUnread : {end : End} → IsUngiven limit reader left path end → IsUnread limit files after opened path end
   IsUngiven-IsUnread (ungiven_memory told) = unopened (memory told)
   IsUngiven-IsUnread (ungiven_broken breaks told) = broken opens (record { reader = reader; left = left; file = is; breaks = breaks }) told

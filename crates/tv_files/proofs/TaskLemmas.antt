@@ -21,20 +21,20 @@ use Rattle.tv_files.specs.Tasks.OnStream.{done as done_both}
 use Rattle.tv_files.specs.Tasks.PlaysFile.{unread as unread_file}
 use Rattle.tv_files.proofs.FileLemmas.{Gives-then, IsFileOf-then, IsRead-Gives, IsUnread-then, Opens-both}
 
-module _ (refuses : (text : List ℕ) → Trouble → Type 0) (passes : (text : List ℕ) → Type 0) (files after : Known) (file beside : List ℕ) (seen : Seen) (failure : Failure) where
+module _ {S : Type 0} (limit : ℕ) (refuses : (text : List ℕ) → Trouble → Type 0) (passes : (text : List ℕ) → Type 0) (files after : Known) (file beside : List ℕ) (seen : S) (failure : Failure) where
   -- the description wasn't read, or was refused
-  pub first-OnFiles : {T : Type 0} (comes : End → (text written : List ℕ) → Type 0) → EndsFirst refuses files after file (end_of_failure failure) → (r : Result T Failure) → IsErrAnd r (λ told. told ≡ failure) → OnFiles refuses passes (comes (end_of r)) files after file beside seen seen (end_of r)
+  pub first-OnFiles : {T : Type 0} (comes : End → (text written : List ℕ) → Type 0) → EndsFirst refuses files after file (end_of_failure failure) → (r : Result T Failure) → IsErrAnd r (λ told. told ≡ failure) → OnFiles limit refuses passes (comes (end_of r)) files after file beside seen seen (end_of r)
   first-OnFiles comes ends (Ok x) told = absurd told
   first-OnFiles comes ends (Err other) told = rw told (first ends refl)
 
   -- the file beside it wasn't read
-  pub unread-OnFiles : {T : Type 0} (comes : End → (text written : List ℕ) → Type 0) (mid : Known) (text : List ℕ) → GivesText files mid (file ∷ []) file text → passes text → IsUnread mid after (beside ∷ []) beside (end_of_failure failure) → (r : Result T Failure) → IsErrAnd r (λ told. told ≡ failure) → OnFiles refuses passes (comes (end_of r)) files after file beside seen seen (end_of r)
+  pub unread-OnFiles : {T : Type 0} (comes : End → (text written : List ℕ) → Type 0) (mid : Known) (text : List ℕ) → GivesText longest files mid (file ∷ []) file text → passes text → IsUnread limit mid after (beside ∷ []) beside (end_of_failure failure) → (r : Result T Failure) → IsErrAnd r (λ told. told ≡ failure) → OnFiles limit refuses passes (comes (end_of r)) files after file beside seen seen (end_of r)
   unread-OnFiles comes mid text gives passed ends (Ok x) told = absurd told
   unread-OnFiles comes mid text gives passed ends (Err other) told = rw told (unread text gives.text_of passed (IsUnread-then file beside gives.opens ends) refl)
 
 -- both were read
-pub done-OnFiles : (refuses : (text : List ℕ) → Trouble → Type 0) (passes : (text : List ℕ) → Type 0) (comes : (text written : List ℕ) → Type 0) (files mid after : Known) (file beside : List ℕ) (old new : Seen) (end : End) (text written : List ℕ) → GivesText files mid (file ∷ []) file text → passes text → GivesText mid after (beside ∷ []) beside written → comes text written → OnFiles refuses passes comes files after file beside old new end
-done-OnFiles refuses passes comes files mid after file beside old new end text written gives passed gives_beside came =
+pub done-OnFiles : {S : Type 0} (limit : ℕ) (refuses : (text : List ℕ) → Trouble → Type 0) (passes : (text : List ℕ) → Type 0) (comes : (text written : List ℕ) → Type 0) (files mid after : Known) (file beside : List ℕ) (old new : S) (end : End) (text written : List ℕ) → GivesText longest files mid (file ∷ []) file text → passes text → GivesText limit mid after (beside ∷ []) beside written → comes text written → OnFiles limit refuses passes comes files after file beside old new end
+done-OnFiles limit refuses passes comes files mid after file beside old new end text written gives passed gives_beside came =
     done text written gives.text_of passed (Gives-then file beside gives.opens gives_beside) came
 
 -- ---- runs
@@ -42,7 +42,7 @@ done-OnFiles refuses passes comes files mid after file beside old new end text w
 -- the description was read, and the script was performed as it came
 pub done-OnStream : {S : Type 0} (comes : (text : List ℕ) (reader left : Given) → Type 0) (files mid after : Known) (file script : List ℕ) (old new : S) (end : End) (description description_left reader left : Given) (text : List ℕ) → Opens files mid (file ∷ []) → IsFileOf files file description → Opens mid after (script ∷ []) → IsFileOf mid script reader → IsRead longest description description_left text → comes text reader left → OnStream comes files after file script old new end
 done-OnStream comes files mid after file script old new end description description_left reader left text opens is opened script_is read came =
-    done_both text reader left (IsRead-Gives file description description_left (Opens-both file script opens opened) is text read) (IsFileOf-then file script opens script_is) came
+    done_both text reader left (IsRead-Gives longest file description description_left (Opens-both file script opens opened) is text read) (IsFileOf-then file script opens script_is) came
 
 -- an answer without its value
 abbrev pub gone : {T E : Type 0} → Result T E → Result (Unit {0}) E
@@ -60,6 +60,6 @@ RunsTo-gone Mismade Stands text reader left old new r (done_run d run read comes
 -- ---- in a terminal
 
 -- the description wasn't read
-pub unread-PlaysFile : (Mismade : Desc → Type 0) (files after : Known) (file : List ℕ) (ports : Ports) (failure : Failure) → IsUnread files after (file ∷ []) file (end_of_failure failure) → (r : Result Done Failure) → IsErrAnd r (λ told. told ≡ failure) → PlaysFile Mismade files after file ports ports (done_in r) (end_of r)
+pub unread-PlaysFile : (Mismade : Desc → Type 0) (files after : Known) (file : List ℕ) (ports : Ports) (failure : Failure) → IsUnread longest files after (file ∷ []) file (end_of_failure failure) → (r : Result Done Failure) → IsErrAnd r (λ told. told ≡ failure) → PlaysFile Mismade files after file ports ports (done_in r) (end_of r)
 unread-PlaysFile Mismade files after file ports failure is (Ok how) told = absurd told
 unread-PlaysFile Mismade files after file ports failure is (Err other) told = rw told (unread_file is refl refl)

@@ -9,7 +9,7 @@ use Rattle.tv_program.specs.Naming.{shot_name}
 use Rattle.tv_play.specs.declared.parting.Parting.{Parting}
 use Rattle.tv_play.specs.declared.parting.Parting.TheVariants as partings
 use Rattle.tv_program.specs.declared.trouble.Trouble.{Trouble}
-use Rattle.tv_program.specs.declared.trouble.Trouble.TheVariants.{NoMemory, Read, Cert}
+use Rattle.tv_program.specs.declared.trouble.Trouble.TheVariants.{NoMemory, Read, Cert, Answers}
 use Rattle.tv_program.specs.declared.run_fault.RunFault.{RunFault}
 use Rattle.tv_program.specs.declared.run_fault.RunFault.TheVariants as runs
 use Rattle.tv_program.specs.Conversions.{run_told}
@@ -53,9 +53,10 @@ abbrev pub done_of_play : {F : Type 0} → Result Parting F → Done
 done_of_play (Ok parting) = done_by parting
 done_of_play (Err fault) = Whole
 
--- the file that a fault is in: the description, or the certificate beside it
+-- the file that a fault is in: the description, or the certificate or the answers beside it
 abbrev pub path_of : Trouble → (file beside : List ℕ) → List ℕ
 path_of (Cert fault) file beside = beside
+path_of (Answers fault) file beside = beside
 path_of _ file beside = file
 
 -- the file that a fault of a run is in: the description, or the script where that is at fault or can't be

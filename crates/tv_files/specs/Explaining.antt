@@ -105,12 +105,12 @@ EndsThere _ = Unit {0}
 -- The file beside the description is looked for once the description is found sound: so it is told of alone
 pub data ExplainsFiles (manner : Manner) (files after : Known) (file beside : List ℕ) (old new : Seen)
     (how : Done) (end : End) : Type 0 where
-  unread : IsUnread files after (file ∷ []) file end → new ≡ old
+  unread : IsUnread longest files after (file ∷ []) file end → new ≡ old
       → ExplainsFiles manner files after file beside old new how end
-  first : (text : List ℕ) (r : Result (Option Desc) Trouble) → GivesText files after (file ∷ []) file text
+  first : (text : List ℕ) (r : Result (Option Desc) Trouble) → GivesText longest files after (file ∷ []) file text
       → ExplainsTo manner file text old new r → EndsThere r → how ≡ how_explained r
       → end ≡ end_as (λ fault. fault) file file r
       → ExplainsFiles manner files after file beside old new how end
-  second : (mid : Known) (text : List ℕ) (desc : Desc) → GivesText files mid (file ∷ []) file text
+  second : (mid : Known) (text : List ℕ) (desc : Desc) → GivesText longest files mid (file ∷ []) file text
       → SpellsSound text desc → ExplainsSecond manner desc mid after beside old new how end
       → ExplainsFiles manner files after file beside old new how end

@@ -9,6 +9,10 @@ use Rattle.tv_io.specs.declared.read_fault.ReadFault.TheVariants.{NoMemory, Read
 abbrev pub longest : ℕ
 longest = 262144
 
+-- the same of answers
+abbrev pub longest_log : ℕ
+longest_log = 1048576
+
 -- what is known of files: what the file of each path holds, and the paths that were opened so far, in order
 pub record Known : Type 0 where
   pub contents : List ℕ → Option (List ℕ)
@@ -26,8 +30,8 @@ pub record Opens (old new : Known) (paths : List (List ℕ)) : Type 0 where
   pub same : (path : List ℕ) → new.contents path ≡ old.contents path
 
 -- the text is what the file of the path holds, but no more than one byte past the limit
-abbrev pub IsFileText : Known → (path : List ℕ) → (text : List ℕ) → Type 0
-IsFileText files path text = IfSome (files.contents path) (λ whole. text ≡ take (longest + 1) whole)
+abbrev pub IsFileText : (limit : ℕ) → Known → (path : List ℕ) → (text : List ℕ) → Type 0
+IsFileText limit files path text = IfSome (files.contents path) (λ whole. text ≡ take (limit + 1) whole)
 
 -- what is known of a file that was opened: what it holds is left to be given, where that is known
 pub record IsFileOf (files : Known) (path : List ℕ) (reader : Given) : Type 0 where

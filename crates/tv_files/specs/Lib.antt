@@ -4,6 +4,8 @@ pub mod EndsWith
 pub mod Ends
 -- What explaining the faults of a file comes to
 pub mod Explaining
+-- What filling a description with answers comes to
+pub mod Filling
 -- What is known of files, and what opening one comes to
 pub mod Files
 -- What every task comes to

@@ -5,12 +5,13 @@ use Rattle.tv_files.specs.declared.done.Done.{Done}
 use Rattle.tv_files.specs.declared.done.Done.TheVariants.{Whole}
 use Rattle.tv_files.specs.declared.task.Task.{Task}
 use Rattle.tv_files.specs.declared.task.Task.TheVariants.{Check, Accept, Run, Play, Picture, PictureAll}
-use Rattle.tv_files.specs.declared.task.Task.TheVariants.{Explain, ExplainBoth, Version}
+use Rattle.tv_files.specs.declared.task.Task.TheVariants.{Fill, Explain, ExplainBoth, Version}
 use Rattle.tv_files.specs.Ends.{End}
 use Rattle.tv_files.specs.Explaining.{ExplainsFile, ExplainsFiles}
+use Rattle.tv_files.specs.Filling.{FillsFiles}
 use Rattle.tv_files.specs.Picturing.{PicturesAll, PicturesFiles}
 use Rattle.tv_files.specs.Tasks.{AcceptsFiles, ChecksFile, PlaysFile, RunsFiles, TellsVersion}
-use Rattle.tv_files.specs.World.{KnownWorld, ports_of}
+use Rattle.tv_files.specs.World.{KnownWorld, ports_of, written_of}
 
 -- nothing is heard, no screen is shown, and no picture is drawn
 abbrev pub IsQuiet : (old new : KnownWorld) → Type 0
@@ -40,6 +41,9 @@ PerformsTask Mismade (Picture file script) old new how end =
 PerformsTask Mismade (PictureAll file script) old new how end =
     (new ≡ record old { files = new.files; album = new.album }) × (how ≡ Whole)
     × PicturesAll Mismade old.files new.files file.now script.now old.album new.album end
+PerformsTask Mismade (Fill file answers) old new how end =
+    (new ≡ record old { files = new.files; out = new.out; err = new.err }) × (how ≡ Whole)
+    × FillsFiles old.files new.files file.now answers.now (written_of old) (written_of new) end
 PerformsTask Mismade (Explain file manner) old new how end =
     IsQuiet old new × ExplainsFile manner old.files new.files file.now old.out new.out how end
 PerformsTask Mismade (ExplainBoth file beside manner) old new how end =

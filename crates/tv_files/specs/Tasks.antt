@@ -30,61 +30,64 @@ pub data IsUnopened (files after : Known) (opened : List (List ℕ)) (path : Lis
       → IsUnopened files after opened path end
 
 -- the text of an open file isn't there: a call of its reader failed, or memory ran out
-pub data IsUngiven (old new : Given) (path : List ℕ) (end : End) : Type 0 where
-  memory : end ≡ faulted NoMemory path → IsUngiven old new path end
-  broken : BreaksOff longest old new → end ≡ faulted Read path → IsUngiven old new path end
+pub data IsUngiven (limit : ℕ) (old new : Given) (path : List ℕ) (end : End) : Type 0 where
+  memory : end ≡ faulted NoMemory path → IsUngiven limit old new path end
+  broken : BreaksOff limit old new → end ≡ faulted Read path → IsUngiven limit old new path end
 
 -- a call of the file's reader failed before its text was read
-pub record BreaksOffIn (files : Known) (path : List ℕ) : Type 0 where
+pub record BreaksOffIn (limit : ℕ) (files : Known) (path : List ℕ) : Type 0 where
   pub reader : Given
   pub left : Given
   pub file : IsFileOf files path reader
-  pub breaks : BreaksOff longest reader left
+  pub breaks : BreaksOff limit reader left
 
 -- the task ended at a file that can't be opened, or can't be read to its end
-pub data IsUnread (files after : Known) (opened : List (List ℕ)) (path : List ℕ) (end : End) : Type 0 where
-  unopened : IsUnopened files after opened path end → IsUnread files after opened path end
-  broken : Opens files after opened → BreaksOffIn files path → end ≡ faulted Read path
-      → IsUnread files after opened path end
+pub data IsUnread (limit : ℕ) (files after : Known) (opened : List (List ℕ)) (path : List ℕ)
+    (end : End) : Type 0 where
+  unopened : IsUnopened files after opened path end → IsUnread limit files after opened path end
+  broken : Opens files after opened → BreaksOffIn limit files path → end ≡ faulted Read path
+      → IsUnread limit files after opened path end
 
 -- the file was opened and gave the text
-pub record GivesText (files after : Known) (opened : List (List ℕ)) (path : List ℕ)
+pub record GivesText (limit : ℕ) (files after : Known) (opened : List (List ℕ)) (path : List ℕ)
     (text : List ℕ) : Type 0 where
   pub opens : Opens files after opened
-  pub text_of : IsFileText files path text
+  pub text_of : IsFileText limit files path text
 
 -- a task on one file: the file is opened, and what follows of its text is by `comes`
 pub data OnFile (comes : (text : List ℕ) → Type 0) (files after : Known) (file : List ℕ) (old new : Seen)
     (end : End) : Type 0 where
-  unread : IsUnread files after (file ∷ []) file end → new ≡ old → OnFile comes files after file old new end
-  done : (text : List ℕ) → GivesText files after (file ∷ []) file text → comes text
+  unread : IsUnread longest files after (file ∷ []) file end → new ≡ old
+      → OnFile comes files after file old new end
+  done : (text : List ℕ) → GivesText longest files after (file ∷ []) file text → comes text
       → OnFile comes files after file old new end
 
 -- a task that ends before the file beside the description is looked for: the description can't be read, or it
 -- is refused
 pub data EndsFirst (refuses : (text : List ℕ) → Trouble → Type 0) (files after : Known) (file : List ℕ)
     (end : End) : Type 0 where
-  unread : IsUnread files after (file ∷ []) file end → EndsFirst refuses files after file end
-  refused : (text : List ℕ) (fault : Trouble) → GivesText files after (file ∷ []) file text
+  unread : IsUnread longest files after (file ∷ []) file end → EndsFirst refuses files after file end
+  refused : (text : List ℕ) (fault : Trouble) → GivesText longest files after (file ∷ []) file text
       → refuses text fault → end ≡ faulted fault file → EndsFirst refuses files after file end
 
--- a task on a description and the file beside it, which is opened only once the description has passed
-pub data OnFiles (refuses : (text : List ℕ) → Trouble → Type 0) (passes : (text : List ℕ) → Type 0)
-    (comes : (text written : List ℕ) → Type 0) (files after : Known) (file beside : List ℕ) (old new : Seen)
-    (end : End) : Type 0 where
+-- A task on a description and the file beside it, which is opened only once the description has passed, and read
+-- to one byte past the limit
+pub data OnFiles {S : Type 0} (limit : ℕ) (refuses : (text : List ℕ) → Trouble → Type 0)
+    (passes : (text : List ℕ) → Type 0) (comes : (text written : List ℕ) → Type 0) (files after : Known)
+    (file beside : List ℕ) (old new : S) (end : End) : Type 0 where
   first : EndsFirst refuses files after file end → new ≡ old
-      → OnFiles refuses passes comes files after file beside old new end
-  unread : (text : List ℕ) → IsFileText files file text → passes text
-      → IsUnread files after (file ∷ beside ∷ []) beside end → new ≡ old
-      → OnFiles refuses passes comes files after file beside old new end
-  done : (text written : List ℕ) → IsFileText files file text → passes text
-      → GivesText files after (file ∷ beside ∷ []) beside written → comes text written
-      → OnFiles refuses passes comes files after file beside old new end
+      → OnFiles limit refuses passes comes files after file beside old new end
+  unread : (text : List ℕ) → IsFileText longest files file text → passes text
+      → IsUnread limit files after (file ∷ beside ∷ []) beside end → new ≡ old
+      → OnFiles limit refuses passes comes files after file beside old new end
+  done : (text written : List ℕ) → IsFileText longest files file text → passes text
+      → GivesText limit files after (file ∷ beside ∷ []) beside written → comes text written
+      → OnFiles limit refuses passes comes files after file beside old new end
 
 -- a description that was read, and what follows of its text
 pub record HasRead (follows : (text : List ℕ) → Type 0) (files after : Known) (file : List ℕ) : Type 0 where
   pub text : List ℕ
-  pub gives : GivesText files after (file ∷ []) file text
+  pub gives : GivesText longest files after (file ∷ []) file text
   pub follows_text : follows text
 
 -- ---- a check
@@ -121,8 +124,8 @@ AcceptsAs file certificate old new end text written =
 abbrev pub AcceptsFiles : (files after : Known) → (file certificate : List ℕ) → (old new : Seen) → End
     → Type 0
 AcceptsFiles files after file certificate old new end =
-    OnFiles IsUnspelled IsSpelled (AcceptsAs file certificate old new end) files after file certificate old
-    new end
+    OnFiles longest IsUnspelled IsSpelled (AcceptsAs file certificate old new end) files after file
+    certificate old new end
 
 -- ---- a run
 
@@ -135,9 +138,9 @@ pub data OnStream {S : Type 0} (comes : (text : List ℕ) (reader left : Given) 
       → OnStream comes files after file script old new end
   beside : IsUnopened files after (file ∷ script ∷ []) script end → new ≡ old
       → OnStream comes files after file script old new end
-  unread : IsUnread files after (file ∷ script ∷ []) file end → new ≡ old
+  unread : IsUnread longest files after (file ∷ script ∷ []) file end → new ≡ old
       → OnStream comes files after file script old new end
-  done : (text : List ℕ) (reader left : Given) → GivesText files after (file ∷ script ∷ []) file text
+  done : (text : List ℕ) (reader left : Given) → GivesText longest files after (file ∷ script ∷ []) file text
       → IsFileOf files script reader → comes text reader left
       → OnStream comes files after file script old new end
 
@@ -171,9 +174,9 @@ PlaysAs Mismade file old new how end text =
 pub data PlaysFile (Mismade : Desc → Type 0) (files after : Known) (file : List ℕ) (old new : Ports)
     (how : Done)
     (end : End) : Type 0 where
-  unread : IsUnread files after (file ∷ []) file end → new ≡ old → how ≡ Whole
+  unread : IsUnread longest files after (file ∷ []) file end → new ≡ old → how ≡ Whole
       → PlaysFile Mismade files after file old new how end
-  played : (text : List ℕ) → GivesText files after (file ∷ []) file text
+  played : (text : List ℕ) → GivesText longest files after (file ∷ []) file text
       → PlaysAs Mismade file old new how end text
       → PlaysFile Mismade files after file old new how end
 

@@ -2,6 +2,7 @@
 use Rattle.std.specs.Prelude.{Option}
 use Rattle.tv_io.specs.Writer.{Seen}
 use Rattle.tv_program.specs.Albums.{Hung}
+use Rattle.tv_program.specs.Filling.{Written}
 use Rattle.tv_play.specs.Pieces.{Heard}
 use Rattle.tv_play.specs.Playing.{Ports}
 use Rattle.tv_files.specs.Files.{Known}
@@ -29,3 +30,7 @@ known_world known hung heard out_seen err_seen world = record {
 -- what a task hears and writes
 abbrev pub ports_of : KnownWorld → Ports
 ports_of world = record { input = world.heard; log = world.out; screen = world.err }
+
+-- what both streams have been written
+abbrev pub written_of : KnownWorld → Written
+written_of world = record { out = world.out; told = world.err }

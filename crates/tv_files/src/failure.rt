@@ -18,12 +18,12 @@ pub enum Failure<'a> {
 }
 
 impl<'a> Failure<'a> {
-    // Tells a fault of the text that it is in: the description, or the certificate beside it.
+    // Tells a fault of the text that it is in: the description, or the certificate or the answers beside it.
     pub(crate) fn new(file: &'a str, beside: &'a str, fault: Trouble) -> Failure<'a>
         ensures { end_of_failure result ≡ faulted fault (path_of fault file.now beside.now) }
     {
         let path = match fault {
-            Trouble::Cert(_) => beside,
+            Trouble::Cert(_) | Trouble::Answers(_) => beside,
             _ => file,
         };
         Failure::Fault { fault, path }

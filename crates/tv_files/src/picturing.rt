@@ -7,7 +7,7 @@ ghost use Rattle.tv_program.specs.Playing.{IsMismade, Makes};
 use crate::Scripted;
 use crate::failure::Failure;
 use crate::file_store::FileStore;
-use crate::tasks::{open, read};
+use crate::tasks::{LONGEST, open, read};
 use std::alloc::Global;
 use tv_check::Checked;
 use tv_io::Writer;
@@ -39,7 +39,7 @@ pub fn picture_file<
 {
     let mut description = open(files, paths.file)?;
     let mut events = open(files, paths.script)?;
-    let text = read(alloc, &mut description, paths.file)?;
+    let text = read(alloc, &mut description, paths.file, LONGEST)?;
     match picture(alloc, text.as_slice(), &mut events, views, out) {
         Ok(()) => Ok(()),
         Err(fault) => Err(Failure::of_run(paths.file, paths.script, fault)),
@@ -70,7 +70,7 @@ pub fn picture_all<
 {
     let mut description = open(files, paths.file)?;
     let mut events = open(files, paths.script)?;
-    let text = read(alloc, &mut description, paths.file)?;
+    let text = read(alloc, &mut description, paths.file, LONGEST)?;
     match picture_shots(
         alloc,
         text.as_slice(),

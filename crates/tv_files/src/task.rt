@@ -33,7 +33,12 @@ pub enum Task<'a> {
         file: &'a str,
         script: &'a str,
     },
-    /// What there is to tell of the faults of a description, or of the line that can't be read.
+    /// A description, its fields beginning with what a log answers.
+    Fill {
+        file: &'a str,
+        answers: &'a str,
+    },
+    /// What there is to tell of the faults of a description, or of the lines that can't be read.
     Explain {
         file: &'a str,
         manner: Manner,
@@ -53,6 +58,13 @@ pub enum Task<'a> {
 pub struct Scripted<'a> {
     pub file: &'a str,
     pub script: &'a str,
+}
+
+/// A description and the log that answers it, by their paths.
+#[derive(Clone, Copy, Debug, PartialEq, Eq)]
+pub struct Answered<'a> {
+    pub file: &'a str,
+    pub answers: &'a str,
 }
 
 /// A file that is explained, by its path, and the form in which its faults are told.

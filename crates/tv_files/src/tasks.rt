@@ -14,8 +14,9 @@ ghost use Rattle.tv_files.specs.World.{known_world};
 use crate::explaining::{explain_file, explain_files};
 use crate::failure::Failure;
 use crate::file_store::FileStore;
+use crate::filling::fill_file;
 use crate::picturing::{picture_all, picture_file};
-use crate::{Done, Inquiry, Scripted, Task, World};
+use crate::{Answered, Done, Inquiry, Scripted, Task, World};
 use std::alloc::Global;
 use tv_check::Checked;
 use tv_io::{Reader, Writer, read_text, write_all};
@@ -77,6 +78,12 @@ pub fn perform<
         Task::PictureAll { file, script } => {
             let paths = Scripted { file, script };
             whole(picture_all(&mut world.files, alloc, paths, views, &mut world.album))
+        }
+        Task::Fill { file, answers } => {
+            let paths = Answered { file, answers };
+            let out = &mut world.out;
+            let err = &mut world.err;
+            whole(fill_file(&mut world.files, alloc, paths, out, err))
         }
         Task::Explain { file, manner } => {
             let inquiry = Inquiry { file, manner };
@@ -171,7 +178,7 @@ pub fn run_file<
 {
     let mut description = open(files, paths.file)?;
     let mut events = open(files, paths.script)?;
-    let text = read(alloc, &mut description, paths.file)?;
+    let text = read(alloc, &mut description, paths.file, LONGEST)?;
     match run(alloc, text.as_slice(), &mut events, views, out) {
         Ok(_) => Ok(()),
         Err(fault) => Err(Failure::of_run(paths.file, paths.script, fault)),
@@ -245,18 +252,32 @@ fn described<'a, F: FileStore>(
     }
 }
 
-// Opens a file and reads its text.
+// Opens the file of a description, or of a text beside it, and reads its text.
 pub(crate) fn read_file<'a, F: FileStore>(
     files: &mut F,
     alloc: Global,
     path: &'a str,
 ) -> Result<Vec<u8>, Failure<'a>>
     ensures { MatchResult result
-        (λ text. GivesText (F.known files.old) (F.known files.new) (path.now ∷ []) path.now text.items)
-        (λ failure. IsUnread (F.known files.old) (F.known files.new) (path.now ∷ []) path.now (end_of_failure failure)) }
+        (λ text. GivesText longest (F.known files.old) (F.known files.new) (path.now ∷ []) path.now text.items)
+        (λ failure. IsUnread longest (F.known files.old) (F.known files.new) (path.now ∷ []) path.now (end_of_failure failure)) }
+{
+    read_up_to(files, alloc, path, LONGEST)
+}
+
+// Opens a file and reads its text, to one byte past the limit.
+pub(crate) fn read_up_to<'a, F: FileStore>(
+    files: &mut F,
+    alloc: Global,
+    path: &'a str,
+    limit: usize,
+) -> Result<Vec<u8>, Failure<'a>>
+    ensures { MatchResult result
+        (λ text. GivesText limit (F.known files.old) (F.known files.new) (path.now ∷ []) path.now text.items)
+        (λ failure. IsUnread limit (F.known files.old) (F.known files.new) (path.now ∷ []) path.now (end_of_failure failure)) }
 {
     let mut file = open(files, path)?;
-    read(alloc, &mut file, path)
+    read(alloc, &mut file, path, limit)
 }
 
 // Opens a file.
@@ -272,17 +293,18 @@ pub(crate) fn open<'a, F: FileStore>(files: &mut F, path: &'a str) -> Result<F::
     }
 }
 
-// Reads the text of a file that was opened.
+// Reads the text of a file that was opened, to one byte past the limit.
 pub(crate) fn read<'a, R: Reader>(
     alloc: Global,
     file: &mut R,
     path: &'a str,
+    limit: usize,
 ) -> Result<Vec<u8>, Failure<'a>>
     ensures { MatchResult result
-        (λ text. IsRead longest (R.seen file.old) (R.seen file.new) text.items)
-        (λ failure. IsUngiven (R.seen file.old) (R.seen file.new) path.now (end_of_failure failure)) }
+        (λ text. IsRead limit (R.seen file.old) (R.seen file.new) text.items)
+        (λ failure. IsUngiven limit (R.seen file.old) (R.seen file.new) path.now (end_of_failure failure)) }
 {
-    match read_text(alloc, file, LONGEST) {
+    match read_text(alloc, file, limit) {
         Ok(text) => Ok(text),
         Err(unread) => Err(Failure::of_file(path, unread)),
     }

@@ -46,6 +46,21 @@ beside the script: SCRIPT-1.svg, SCRIPT-2.svg and so on. What such a file held i
 lost. The script is read to its end before the first picture is drawn, and of one
 with a faulty line none is.";
 
+/// What `fill` prints, and the lines of answers.
+const ANSWERS: &str = "\
+Prints a description whose fields begin with answers
+
+ANSWERS is a log, as `run` and `play` print it, or lines written by hand:
+  end settings ok
+  field port \"443\"
+  field extras 2 3
+An `end` line begins what is answered of a dialog, and its `field` lines follow. A
+dialog that ended by cancel answers nothing. Of several answers to one field the
+last counts, so logs can be joined. What doesn't fit the description is told on
+standard error, and that field begins as it is declared.
+
+What is printed is a description: tvdlg fill FILE ANSWERS >FILLED.tvd.";
+
 /// What `explain` prints.
 const EXPLANATIONS: &str = "\
 Tells of each fault of a description where it is, why it is one and how to mend it
@@ -53,13 +68,12 @@ Tells of each fault of a description where it is, why it is one and how to mend 
 Each is told as FILE:LINE:COLUMN: FAULT: MESSAGE, with the lines of the file that
 have to do with it. Lines are those of the file, comments and empty lines counted,
 where those that `check` prints count declarations alone. Of a description that
-can't be read the first line that is none is told. One without faults prints
-nothing.
+can't be read the lines that are none are told. One without faults prints nothing.
 
 With BESIDE, a script or a certificate, a description without faults is passed
-over and that file is told of: its first line that can't be read, or whose point
-is off the screen. It is a certificate where its first word is tvcert. One that
-isn't the description's is refused as `accept` does.";
+over and that file is told of: its lines that can't be read, or the first whose
+point is off the screen. It is a certificate where its first word is tvcert. One
+that isn't the description's is refused as `accept` does.";
 
 /// What `play` does, and what it needs.
 const TERMINALS: &str = "\
@@ -158,6 +172,20 @@ fn picture<'a>(alloc: Global) -> Result<Command<'a>, AllocError> {
     )
 }
 
+fn fill<'a>(alloc: Global) -> Result<Command<'a>, AllocError> {
+    subcommand(
+        alloc,
+        "fill",
+        "Prints a description whose fields begin with answers",
+    )?
+    .long_about(ANSWERS)
+    .arg(path(
+        alloc,
+        "ANSWERS",
+        "A log, or lines of one, that answers dialogs of the description",
+    ))
+}
+
 fn explain<'a>(alloc: Global) -> Result<Command<'a>, AllocError> {
     subcommand(
         alloc,
@@ -196,6 +224,7 @@ fn command<'a>(alloc: Global) -> Result<Command<'a>, AllocError> {
         .subcommand(run(alloc)?)?
         .subcommand(play(alloc)?)?
         .subcommand(picture(alloc)?)?
+        .subcommand(fill(alloc)?)?
         .subcommand(explain(alloc)?)
 }
 
@@ -242,6 +271,10 @@ fn named_task<'a>(name: &str, found: &ArgMatches<'a>) -> Option<Task<'a>> {
         }),
         "play" => Some(Task::Play { file }),
         "picture" => Some(drawing(file, found.get_str("SCRIPT")?, found)),
+        "fill" => Some(Task::Fill {
+            file,
+            answers: found.get_str("ANSWERS")?,
+        }),
         "explain" => Some(explanation(file, found)),
         _ => None,
     }

@@ -45,6 +45,7 @@ fn task_told(alloc: Global, task: Task<'_>) -> Result<String, AllocError> {
         Task::Play { file } => format!(in alloc; "plays {file}\n"),
         Task::Picture { file, script } => format!(in alloc; "draws {file} after {script}\n"),
         Task::PictureAll { file, script } => format!(in alloc; "draws {file} all along {script}\n"),
+        Task::Fill { file, answers } => format!(in alloc; "fills {file} with {answers}\n"),
         Task::Explain { file, manner } => format!(in alloc; "explains {file}: {manner:?}\n"),
         Task::ExplainBoth {
             file,
@@ -69,6 +70,8 @@ tvdlg picture a.tvd a.tvs --all
 => draws a.tvd all along a.tvs
 tvdlg picture --all a.tvd a.tvs
 => draws a.tvd all along a.tvs
+tvdlg fill a.tvd a.log
+=> fills a.tvd with a.log
 tvdlg explain a.tvd
 => explains a.tvd: Plain
 tvdlg explain a.tvd --color=always
@@ -110,6 +113,10 @@ tvdlg picture a.tvd
 => MissingRequiredArgument
 tvdlg picture --all a.tvd
 => MissingRequiredArgument
+tvdlg fill a.tvd
+=> MissingRequiredArgument
+tvdlg fill a.tvd a.log b.log
+=> UnknownArgument
 tvdlg run --all a.tvd a.tvs
 => UnknownArgument
 tvdlg check a.tvd b.tvd

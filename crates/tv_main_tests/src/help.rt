@@ -27,6 +27,7 @@ Commands:
   run      Performs a script of keys and pictures on a description, and prints what happens
   play     Plays a description in a terminal, and prints what happens
   picture  Performs a script on a description, and prints the screen that it leaves as SVG
+  fill     Prints a description whose fields begin with answers
   explain  Tells of each fault of a description where it is, why it is one and how to mend it
   help     Print this message or the help of the given subcommand(s)
 
@@ -168,19 +169,50 @@ Statuses: 0 done; 1 faults, a refusal or a bad text; 2 usage; 3 a file, a stream
 Help goes to standard error too, with status 2.
 ";
 
+const FILL: &str = "\
+Prints a description whose fields begin with answers
+
+ANSWERS is a log, as `run` and `play` print it, or lines written by hand:
+  end settings ok
+  field port \"443\"
+  field extras 2 3
+An `end` line begins what is answered of a dialog, and its `field` lines follow. A
+dialog that ended by cancel answers nothing. Of several answers to one field the
+last counts, so logs can be joined. What doesn't fit the description is told on
+standard error, and that field begins as it is declared.
+
+What is printed is a description: tvdlg fill FILE ANSWERS >FILLED.tvd.
+
+Usage: tvdlg fill <FILE> <ANSWERS>
+
+Arguments:
+  <FILE>
+          A description of windows and dialogs
+
+  <ANSWERS>
+          A log, or lines of one, that answers dialogs of the description
+
+Options:
+  -h, --help
+          Print help (see a summary with '-h')
+
+Statuses: 0 done; 1 faults, a refusal or a bad text; 2 usage; 3 a file, a stream or memory failed; \
+4 the user left, or his input ended. Messages go to standard error, all else that is printed to standard output.
+Help goes to standard error too, with status 2.
+";
+
 const EXPLAIN: &str = "\
 Tells of each fault of a description where it is, why it is one and how to mend it
 
 Each is told as FILE:LINE:COLUMN: FAULT: MESSAGE, with the lines of the file that
 have to do with it. Lines are those of the file, comments and empty lines counted,
 where those that `check` prints count declarations alone. Of a description that
-can't be read the first line that is none is told. One without faults prints
-nothing.
+can't be read the lines that are none are told. One without faults prints nothing.
 
 With BESIDE, a script or a certificate, a description without faults is passed
-over and that file is told of: its first line that can't be read, or whose point
-is off the screen. It is a certificate where its first word is tvcert. One that
-isn't the description's is refused as `accept` does.
+over and that file is told of: its lines that can't be read, or the first whose
+point is off the screen. It is a certificate where its first word is tvcert. One
+that isn't the description's is refused as `accept` does.
 
 Usage: tvdlg explain [OPTIONS] <FILE> [BESIDE]
 
@@ -221,6 +253,7 @@ fn whole_help(rt: HostRuntime) -> Result<(), Fail> {
             ("tvdlg run --help", RUN),
             ("tvdlg play --help", PLAY),
             ("tvdlg picture --help", PICTURE),
+            ("tvdlg fill --help", FILL),
             ("tvdlg explain --help", EXPLAIN),
         ],
     )

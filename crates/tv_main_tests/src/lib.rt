@@ -16,6 +16,8 @@ mod explaining;
 #[cfg(test)]
 mod failing_streams;
 #[cfg(test)]
+mod filling;
+#[cfg(test)]
 mod gallery;
 #[cfg(test)]
 mod help;

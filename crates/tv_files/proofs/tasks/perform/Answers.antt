@@ -19,6 +19,9 @@ returns-in-Picture g c = rw c.in-Picture.is (refl, c.whole-in-Picture.ensures.do
 pub returns-in-PictureAll : goal.returns-in-PictureAll
 returns-in-PictureAll g c = rw c.in-PictureAll.is (refl, c.whole-in-PictureAll.ensures.done, rw c.whole-in-PictureAll.ensures.end c.picture_all.ensures)
 
+pub returns-in-Fill : goal.returns-in-Fill
+returns-in-Fill g c = rw c.in-Fill.is (refl, c.whole-in-Fill.ensures.done, rw c.whole-in-Fill.ensures.end c.fill_file.ensures)
+
 pub returns-in-Explain : goal.returns-in-Explain
 returns-in-Explain g c = rw c.in-Explain.is (refl, c.explain_file.ensures)
 
