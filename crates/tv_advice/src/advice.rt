@@ -6,7 +6,7 @@ ghost use Rattle.tv_advice.specs.Advised.{IsAdviceOn};
 
 use crate::index::Index;
 use crate::note::Note;
-use crate::saying::{Part, Remark, Saying};
+use crate::saying::{LinePart, Remark, Saying};
 use crate::spans::{Span, words};
 use crate::telling::saying_for;
 use std::alloc::{AllocError, Global};
@@ -61,15 +61,15 @@ fn span_of_mark(column: Option<usize>) -> Span {
 }
 
 // Where a part of a line stands.
-fn span_of(alloc: Global, line: &str, part: Part) -> Result<Span, AllocError> {
+fn span_of(alloc: Global, line: &str, part: LinePart) -> Result<Span, AllocError> {
     Ok(match part {
-        Part::Words { first, count } => {
+        LinePart::Words { first, count } => {
             let words = words(alloc, line)?;
             span_of_words(&words, first, count)
         }
-        Part::FirstMark(letter) => span_of_mark(marks_in(line, letter).map(|(first, _)| first)),
-        Part::LastMark(letter) => span_of_mark(marks_in(line, letter).map(|(_, last)| last)),
-        Part::At(span) => span,
+        LinePart::FirstMark(letter) => span_of_mark(marks_in(line, letter).map(|(first, _)| first)),
+        LinePart::LastMark(letter) => span_of_mark(marks_in(line, letter).map(|(_, last)| last)),
+        LinePart::At(span) => span,
     })
 }
 

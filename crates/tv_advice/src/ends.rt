@@ -2,14 +2,14 @@
 
 use crate::naming::{command_text, name_of, text_of};
 use crate::nearest::{Nearest, Unknown};
-use crate::saying::{Part, Remark, Saying};
+use crate::saying::{LinePart, Remark, Saying};
 use std::alloc::{AllocError, Global};
 use tv_explain::{Reason, Why};
 use tv_model::{Desc, Kind, Node};
 
 /// Tells why a dialog may have nothing to focus.
 pub fn nothing_to_focus(alloc: Global, why: Why) -> Result<Saying, AllocError> {
-    let own = Part::Words { first: 0, count: 2 };
+    let own = LinePart::Words { first: 0, count: 2 };
     if why.reason != Reason::AllReached {
         return Ok(Saying {
             message: String::from_str(alloc, "this dialog has no control to focus")?,
@@ -26,7 +26,7 @@ pub fn nothing_to_focus(alloc: Global, why: Why) -> Result<Saying, AllocError> {
         own: Remark::new(alloc, own, "rules reach each of its controls")?,
         other: Some(Remark::new(
             alloc,
-            Part::Words { first: 0, count: 2 },
+            LinePart::Words { first: 0, count: 2 },
             "this one reaches the first",
         )?),
         mend: String::from_str(alloc, "leave one control that no rule shows or enables")?,
@@ -95,7 +95,7 @@ fn opening_of(node: &Node) -> i32 {
 /// Tells why a dialog's command can't open it.
 pub fn bad_opening(alloc: Global, node: &Node, why: Why) -> Result<Saying, AllocError> {
     let number = opening_of(node);
-    let own = Part::word(8);
+    let own = LinePart::word(8);
     if why.reason == Reason::OpeningTwice {
         return Ok(Saying {
             message: format!(in alloc; "command {number} opens another dialog already")?,

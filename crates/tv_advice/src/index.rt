@@ -1,10 +1,10 @@
 //! The lines of a text and of the description that it spells, each found by its number.
 
 use crate::kin::Kin;
-use crate::known::Known;
 use crate::letters::Letters;
 use crate::spans::{line_in, lines_of};
 use crate::subject::{Declared, Subject};
+use crate::view_names::ViewNames;
 use std::alloc::{AllocError, Global};
 use std::collections::{HashMap, HashSet};
 use tv_event::Key;
@@ -22,7 +22,7 @@ pub struct Index<'a> {
     /// The letters of each dialog.
     letters: Vec<Letters>,
     /// The names of each dialog.
-    known: Vec<Known<'a>>,
+    view_names: Vec<ViewNames<'a>>,
     /// The views of each dialog, by what they stand in.
     kin: Vec<Kin<'a>>,
     /// The letters that status items have with Alt.
@@ -37,7 +37,7 @@ impl<'a> Index<'a> {
             lines: lines_of(alloc, text)?,
             declared: HashMap::new(alloc),
             letters: Vec::new(alloc),
-            known: Vec::new(alloc),
+            view_names: Vec::new(alloc),
             kin: Vec::new(alloc),
             status: HashSet::new(alloc),
         };
@@ -90,7 +90,7 @@ impl<'a> Index<'a> {
             self.add_rules(place, dialog.rules.as_slice())?;
             self.letters
                 .push(Letters::new(alloc, self.desc.version, dialog)?)?;
-            self.known.push(Known::new(alloc, place, dialog)?)?;
+            self.view_names.push(ViewNames::new(alloc, place, dialog)?)?;
         }
         Ok(())
     }
@@ -164,8 +164,8 @@ impl<'a> Index<'a> {
     }
 
     /// Finds the names of the dialog that it stands in.
-    pub fn known(&self, declared: Declared) -> Option<&Known<'a>> {
-        self.known.get(declared.dialog?)
+    pub fn view_names(&self, declared: Declared) -> Option<&ViewNames<'a>> {
+        self.view_names.get(declared.dialog?)
     }
 
     /// Finds the views of the dialog that it stands in.

@@ -2,7 +2,7 @@
 
 use crate::naming::one_of_items;
 use crate::pictures::{Flaw, find_flaw};
-use crate::saying::{Part, Remark, Saying};
+use crate::saying::{LinePart, Remark, Saying};
 use crate::spans::{Span, words};
 use std::alloc::{AllocError, Global};
 use tv_explain::Reason;
@@ -60,7 +60,7 @@ fn bad_picture(alloc: Global, input: &Input, line: &str) -> Result<Saying, Alloc
     let span = picture_span(alloc, line, place)?;
     Ok(Saying {
         message: String::from_str(alloc, "the picture of this input is spelled wrong")?,
-        own: Remark::new(alloc, Part::At(span), label)?,
+        own: Remark::new(alloc, LinePart::At(span), label)?,
         other: None,
         mend: String::from_str(alloc, mend)?,
     })
@@ -72,7 +72,7 @@ fn no_text(alloc: Global, input: &Input) -> Result<Saying, AllocError> {
     Ok(Saying {
         message: String::from_str(alloc, "nothing that can be typed into this input is right")?,
         own: Remark {
-            part: Part::Words { first: 5, count },
+            part: LinePart::Words { first: 5, count },
             label: format!(in alloc; "no right text has {max} characters or fewer")?,
         },
         other: None,
@@ -85,7 +85,7 @@ fn no_number(alloc: Global, least: i32, greatest: i32) -> Result<Saying, AllocEr
     Ok(Saying {
         message: String::from_str(alloc, "nothing that can be typed into this input is right")?,
         own: Remark {
-            part: Part::Words { first: 6, count: 3 },
+            part: LinePart::Words { first: 6, count: 3 },
             label: format!(in alloc; "there is no number from {least} to {greatest}")?,
         },
         other: None,
@@ -147,7 +147,7 @@ fn start_text(alloc: Global, input: &Input) -> Result<Saying, AllocError> {
     Ok(Saying {
         message: String::from_str(alloc, "the first text of this input can't be typed there")?,
         own: Remark {
-            part: Part::word(at),
+            part: LinePart::word(at),
             label,
         },
         other: None,
@@ -220,7 +220,7 @@ fn line_end(alloc: Global, what: &str, line: &str) -> Result<Saying, AllocError>
     };
     Ok(Saying {
         message: format!(in alloc; "a line end can't stand in this {what}")?,
-        own: Remark::new(alloc, Part::At(span), "this is shown in one row")?,
+        own: Remark::new(alloc, LinePart::At(span), "this is shown in one row")?,
         other: None,
         mend: String::from_str(alloc, "write a space, or two texts")?,
     })
@@ -236,7 +236,7 @@ pub fn wide_character(alloc: Global, what: &str, line: &str) -> Result<Saying, A
     Ok(Saying {
         message: format!(in alloc; "a character of this {what} doesn't take one column")?,
         own: Remark {
-            part: Part::At(Span::at(column)),
+            part: LinePart::At(Span::at(column)),
             label: format!(in alloc; "U+{code:04X} takes {columns}")?,
         },
         other: None,

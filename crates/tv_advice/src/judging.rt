@@ -1,10 +1,10 @@
 //! What is wrong with a line that can't be read.
 
+use crate::context::{Context, Unclosed};
 use crate::fitting::{Want, Wrong, wrong_word};
 use crate::forms::{Form, Language, Rest, form_named, form_of, nearest_keyword};
 use crate::meant::{further_words, meant};
 use crate::quotes::find_slip;
-use crate::reading::{Block, Reading};
 use crate::spans::{Span, readable, words};
 use crate::stage::Stage;
 use std::alloc::{AllocError, Global};
@@ -12,7 +12,7 @@ use tv_words::{Word, words_of};
 
 /// What is wrong with a line, before its number is known.
 #[derive(Debug, Drop)]
-pub struct Trouble {
+pub struct Complaint {
     pub message: String,
     pub span: Span,
     pub label: String,
@@ -20,32 +20,32 @@ pub struct Trouble {
     pub form: Option<&'static str>,
     /// How to mend it.
     pub mend: Option<String>,
-    /// The block that has to end before it.
-    pub block: Option<Block>,
+    /// What has to end before it.
+    pub unclosed: Option<Unclosed>,
 }
 
-impl Trouble {
+impl Complaint {
     /// Says this of a part of the line.
     pub fn new(
         alloc: Global,
         message: &str,
         span: Span,
         label: &str,
-    ) -> Result<Trouble, AllocError> {
-        Ok(Trouble {
+    ) -> Result<Complaint, AllocError> {
+        Ok(Complaint {
             message: String::from_str(alloc, message)?,
             span,
             label: String::from_str(alloc, label)?,
             form: None,
             mend: None,
-            block: None,
+            unclosed: None,
         })
     }
 
     /// Says how to mend it.
-    pub fn mended_by(self, alloc: Global, mend: &str) -> Result<Trouble, AllocError> {
+    pub fn mended_by(self, alloc: Global, mend: &str) -> Result<Complaint, AllocError> {
         let mend = Some(String::from_str(alloc, mend)?);
-        Ok(Trouble { mend, ..self })
+        Ok(Complaint { mend, ..self })
     }
 }
 
@@ -53,7 +53,7 @@ impl Trouble {
 #[derive(Drop)]
 pub struct Judged {
     pub keyword: Option<&'static str>,
-    pub trouble: Option<Trouble>,
+    pub complaint: Option<Complaint>,
 }
 
 const BYTE_ORDER_MARK: char = '\u{feff}';
@@ -64,7 +64,7 @@ fn stray_in(line: &str) -> Option<(usize, char)> {
         || (*column == 0 && *ch == BYTE_ORDER_MARK))
 }
 
-fn stray_character(alloc: Global, column: usize, ch: char) -> Result<Trouble, AllocError> {
+fn stray_character(alloc: Global, column: usize, ch: char) -> Result<Complaint, AllocError> {
     let (name, mend) = match ch {
         '\t' => ("a tab", "indent with spaces"),
         '\r' => ("a carriage return", "save the file with Unix line ends"),
@@ -76,31 +76,31 @@ fn stray_character(alloc: Global, column: usize, ch: char) -> Result<Trouble, Al
     };
     let code = u32::from(ch);
     let message = format!(in alloc; "{name} (U+{code:04X}) can't stand in a line")?;
-    let trouble = Trouble::new(alloc, &message, Span::at(column), "here")?;
-    trouble.mended_by(alloc, mend)
+    let complaint = Complaint::new(alloc, &message, Span::at(column), "here")?;
+    complaint.mended_by(alloc, mend)
 }
 
 // A line that is no UTF-8 behind these characters.
-fn bad_encoding(alloc: Global, readable: &str) -> Result<Trouble, AllocError> {
+fn bad_encoding(alloc: Global, readable: &str) -> Result<Complaint, AllocError> {
     let span = Span::at(readable.chars().count());
-    let trouble = Trouble::new(
+    let complaint = Complaint::new(
         alloc,
         "this line isn't UTF-8",
         span,
         "no character begins so",
     )?;
-    trouble.mended_by(alloc, "save the file as UTF-8")
+    complaint.mended_by(alloc, "save the file as UTF-8")
 }
 
 // A line whose words can't be told apart.
-fn bad_quotes(alloc: Global, line: &str) -> Result<Trouble, AllocError> {
+fn bad_quotes(alloc: Global, line: &str) -> Result<Complaint, AllocError> {
     let message = "the words of this line can't be told apart";
     match find_slip(line) {
         Some(slip) => {
-            let trouble = Trouble::new(alloc, message, Span::at(slip.column), slip.what)?;
-            trouble.mended_by(alloc, slip.mend)
+            let complaint = Complaint::new(alloc, message, Span::at(slip.column), slip.what)?;
+            complaint.mended_by(alloc, slip.mend)
         }
-        None => Trouble::new(alloc, message, Span::at(0), "here"),
+        None => Complaint::new(alloc, message, Span::at(0), "here"),
     }
 }
 
@@ -198,11 +198,11 @@ fn out_of_order(
     form: &Form,
     span: Span,
     found: &str,
-) -> Result<Trouble, AllocError> {
+) -> Result<Complaint, AllocError> {
     let message = format!(in alloc; "`{found}` can't stand behind the words before it")?;
-    let mut trouble = Trouble::new(alloc, &message, span, order_of(form.rest))?;
-    trouble.form = Some(form.text);
-    trouble.mended_by(alloc, "bring these words into their order")
+    let mut complaint = Complaint::new(alloc, &message, span, order_of(form.rest))?;
+    complaint.form = Some(form.text);
+    complaint.mended_by(alloc, "bring these words into their order")
 }
 
 // A word that isn't there.
@@ -211,7 +211,7 @@ fn missing_word(
     line: &str,
     form: &Form,
     wrong: Wrong,
-) -> Result<Trouble, AllocError> {
+) -> Result<Complaint, AllocError> {
     let place = wrong.at.saturating_add(1);
     let (what, label) = wanted(wrong.want);
     let what = match wrong.want {
@@ -220,9 +220,9 @@ fn missing_word(
     };
     let called = form.called;
     let message = format!(in alloc; "{called} needs {what} as its word {place}")?;
-    let mut trouble = Trouble::new(alloc, &message, end_of(line), label)?;
-    trouble.form = Some(form.text);
-    Ok(trouble)
+    let mut complaint = Complaint::new(alloc, &message, end_of(line), label)?;
+    complaint.form = Some(form.text);
+    Ok(complaint)
 }
 
 // A word that is another than is wanted.
@@ -232,7 +232,7 @@ fn other_word(
     wrong: Wrong,
     span: Span,
     found: &str,
-) -> Result<Trouble, AllocError> {
+) -> Result<Complaint, AllocError> {
     let place = wrong.at.saturating_add(1);
     let (what, label) = wanted(wrong.want);
     let called = form.called;
@@ -243,9 +243,9 @@ fn other_word(
         }
         _ => format!(in alloc; "{called} needs {what} as its word {place}, not {found}")?,
     };
-    let mut trouble = Trouble::new(alloc, &message, span, label)?;
-    trouble.form = Some(form.text);
-    Ok(trouble)
+    let mut complaint = Complaint::new(alloc, &message, span, label)?;
+    complaint.form = Some(form.text);
+    Ok(complaint)
 }
 
 // A word that doesn't fit the line's form.
@@ -255,7 +255,7 @@ fn misfit(
     form: &Form,
     found: &[Word],
     wrong: Wrong,
-) -> Result<Trouble, AllocError> {
+) -> Result<Complaint, AllocError> {
     let spans = words(alloc, line)?;
     let Some(span) = spans.get(wrong.at).copied() else {
         return missing_word(alloc, line, form, wrong);
@@ -266,9 +266,9 @@ fn misfit(
         return out_of_order(alloc, form, span, &word);
     }
     let next = found.get(wrong.at.saturating_add(1));
-    let mut trouble = other_word(alloc, form, wrong, span, &word)?;
-    trouble.mend = word_mend(alloc, form, wrong.want, &word, next)?;
-    Ok(trouble)
+    let mut complaint = other_word(alloc, form, wrong, span, &word)?;
+    complaint.mend = word_mend(alloc, form, wrong.want, &word, next)?;
+    Ok(complaint)
 }
 
 // Where the first word of a line stands.
@@ -283,7 +283,7 @@ fn unknown_keyword(
     line: &str,
     nearest: Option<&'static str>,
     stage: Stage,
-) -> Result<Trouble, AllocError> {
+) -> Result<Complaint, AllocError> {
     let span = keyword_span(alloc, line)?;
     let found = text_at(alloc, line, span)?;
     let message = format!(in alloc; "no line begins with {found}")?;
@@ -291,8 +291,8 @@ fn unknown_keyword(
         Some(keyword) => format!(in alloc; "did you mean `{keyword}`?")?,
         None => format!(in alloc; "begin the line with {}", stage.beginnings())?,
     };
-    let trouble = Trouble::new(alloc, &message, span, "a keyword is wanted here")?;
-    trouble.mended_by(alloc, &mend)
+    let complaint = Complaint::new(alloc, &message, span, "a keyword is wanted here")?;
+    complaint.mended_by(alloc, &mend)
 }
 
 // The place of the first number behind `start` that isn't above the one before.
@@ -319,7 +319,7 @@ fn not_rising(
     line: &str,
     form: &Form,
     found: &[Word],
-) -> Result<Trouble, AllocError> {
+) -> Result<Complaint, AllocError> {
     let spans = words(alloc, line)?;
     let span = match falling(found) {
         Some(at) => spans.get(at).copied(),
@@ -327,9 +327,9 @@ fn not_rising(
     };
     let span = span.unwrap_or(end_of(line));
     let message = "the numbers behind `start` rise";
-    let mut trouble = Trouble::new(alloc, message, span, "not above the one before")?;
-    trouble.form = Some(form.text);
-    Ok(trouble)
+    let mut complaint = Complaint::new(alloc, message, span, "not above the one before")?;
+    complaint.form = Some(form.text);
+    Ok(complaint)
 }
 
 // A line that is spelled right and can't stand here.
@@ -338,18 +338,18 @@ fn misplaced(
     line: &str,
     form: &Form,
     found: &[Word],
-    reading: &Reading,
-) -> Result<Trouble, AllocError> {
-    let (stage, keyword) = (reading.stage, form.keyword());
+    context: &Context,
+) -> Result<Complaint, AllocError> {
+    let (stage, keyword) = (context.stage, form.keyword());
     if keyword == "checks" && falling(found).is_some() {
         return not_rising(alloc, line, form, found);
     }
     let span = keyword_span(alloc, line)?;
-    let mut trouble = Trouble::new(alloc, stage.refuses(keyword), span, "not here")?;
+    let mut complaint = Complaint::new(alloc, stage.refuses(keyword), span, "not here")?;
     if stage.lacks_end(keyword) {
-        trouble.block = reading.innermost();
+        complaint.unclosed = context.innermost();
     }
-    Ok(trouble)
+    Ok(complaint)
 }
 
 // Whether a text that is to be typed has a line end.
@@ -374,12 +374,12 @@ fn judge_form(
     line: &str,
     form: &Form,
     found: &[Word],
-    reading: &Reading,
-) -> Result<Option<Trouble>, AllocError> {
+    context: &Context,
+) -> Result<Option<Complaint>, AllocError> {
     Ok(match wrong_word(form, found) {
         Some(wrong) => Some(misfit(alloc, line, form, found, wrong)?),
-        None if is_refused(form, found, reading.stage) => {
-            Some(misplaced(alloc, line, form, found, reading)?)
+        None if is_refused(form, found, context.stage) => {
+            Some(misplaced(alloc, line, form, found, context)?)
         }
         None => None,
     })
@@ -391,24 +391,24 @@ fn judge_words(
     language: Language,
     line: &str,
     found: &[Word],
-    reading: &Reading,
+    context: &Context,
 ) -> Result<Judged, AllocError> {
     let Some(first) = found.first() else {
         return Ok(Judged {
             keyword: None,
-            trouble: None,
+            complaint: None,
         });
     };
     if let Some(form) = form_of(language, first) {
         return Ok(Judged {
             keyword: Some(form.keyword()),
-            trouble: judge_form(alloc, line, form, found, reading)?,
+            complaint: judge_form(alloc, line, form, found, context)?,
         });
     }
     let keyword = nearest_keyword(alloc, language, line)?;
     Ok(Judged {
         keyword,
-        trouble: Some(unknown_keyword(alloc, line, keyword, reading.stage)?),
+        complaint: Some(unknown_keyword(alloc, line, keyword, context.stage)?),
     })
 }
 
@@ -426,21 +426,21 @@ pub fn judge(
     alloc: Global,
     language: Language,
     line: &[u8],
-    reading: &Reading,
+    context: &Context,
 ) -> Result<Judged, AllocError> {
     let text = readable(line);
-    let trouble = if let Some((column, ch)) = stray_in(text) {
+    let complaint = if let Some((column, ch)) = stray_in(text) {
         stray_character(alloc, column, ch)?
     } else if text.len() < line.len() {
         bad_encoding(alloc, text)?
     } else if let Some(found) = words_of(alloc, line)? {
-        return judge_words(alloc, language, text, found.as_slice(), reading);
+        return judge_words(alloc, language, text, found.as_slice(), context);
     } else {
         bad_quotes(alloc, text)?
     };
     Ok(Judged {
         keyword: keyword_in(language, text),
-        trouble: Some(trouble),
+        complaint: Some(complaint),
     })
 }
 
@@ -449,41 +449,41 @@ fn refused_here(
     alloc: Global,
     language: Language,
     line: &[u8],
-    reading: &Reading,
-) -> Result<Trouble, AllocError> {
+    context: &Context,
+) -> Result<Complaint, AllocError> {
     let text = readable(line);
     let keyword = keyword_in(language, text).unwrap_or("");
     let span = keyword_span(alloc, text)?;
-    Trouble::new(alloc, reading.stage.refuses(keyword), span, "not here")
+    Complaint::new(alloc, context.stage.refuses(keyword), span, "not here")
 }
 
 /// Says what is wrong with a line that can't be read here.
-pub fn trouble_with(
+pub fn complaint_about(
     alloc: Global,
     language: Language,
     line: &[u8],
-    reading: &Reading,
-) -> Result<Trouble, AllocError> {
-    match judge(alloc, language, line, reading)?.trouble {
-        Some(trouble) => Ok(trouble),
-        None => refused_here(alloc, language, line, reading),
+    context: &Context,
+) -> Result<Complaint, AllocError> {
+    match judge(alloc, language, line, context)?.complaint {
+        Some(complaint) => Ok(complaint),
+        None => refused_here(alloc, language, line, context),
     }
 }
 
 /// Says which line is missing where the text ends here.
-pub fn missing_line(alloc: Global, reading: &Reading) -> Result<Trouble, AllocError> {
+pub fn missing_line(alloc: Global, context: &Context) -> Result<Complaint, AllocError> {
     let label = "the text ends here";
-    match reading.innermost() {
-        Some(block) => {
-            let Block { line, keyword } = block;
+    match context.innermost() {
+        Some(unclosed) => {
+            let Unclosed { line, keyword } = unclosed;
             let message = format!(in alloc;
                 "the text ends too early: the `end` of the {keyword} in line {line} is missing"
             )?;
-            let mut trouble = Trouble::new(alloc, &message, Span::at(0), label)?;
-            trouble.block = Some(block);
+            let mut complaint = Complaint::new(alloc, &message, Span::at(0), label)?;
+            complaint.unclosed = Some(unclosed);
             let mend = format!(in alloc; "write `end` where the {keyword} ends")?;
-            trouble.mended_by(alloc, &mend)
+            complaint.mended_by(alloc, &mend)
         }
-        None => Trouble::new(alloc, reading.stage.missing(), Span::at(0), label),
+        None => Complaint::new(alloc, context.stage.missing(), Span::at(0), label),
     }
 }

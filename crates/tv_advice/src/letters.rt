@@ -1,7 +1,7 @@
 //! What is told of letters, keys and numbers: F4, F5 and F17.
 
 use crate::naming::key_text;
-use crate::saying::{Part, Remark, Saying};
+use crate::saying::{LinePart, Remark, Saying};
 use std::alloc::{AllocError, Global};
 use std::collections::HashSet;
 use tv_event::Key;
@@ -126,9 +126,9 @@ pub fn letter_again(
     let told = format!(in alloc; "Alt-{letter} is this one's")?;
     Ok(Saying {
         message: format!(in alloc; "the letter {letter} is marked twice in this dialog")?,
-        own: Remark::new(alloc, Part::LastMark(letter), "marked again here")?,
+        own: Remark::new(alloc, LinePart::LastMark(letter), "marked again here")?,
         other: Some(Remark {
-            part: Part::FirstMark(letter),
+            part: LinePart::FirstMark(letter),
             label: told,
         }),
         mend,
@@ -172,7 +172,7 @@ fn unfit_key(alloc: Global, key: &str) -> Result<Saying, AllocError> {
 /// Tells why a status item can't have its key.
 pub fn status_key(alloc: Global, item: &StatusItem, reason: Reason) -> Result<Saying, AllocError> {
     let key = key_text(alloc, item.key)?;
-    let first_mark = Part::FirstMark(alt_letter(item.key));
+    let first_mark = LinePart::FirstMark(alt_letter(item.key));
     let first = "status keys come before all others";
     match reason {
         Reason::DialogLetter => {
@@ -204,9 +204,9 @@ pub fn title_again(alloc: Global, menu: &Menu) -> Result<Saying, AllocError> {
     let letter = menu.title.letter().unwrap_or('?');
     Ok(Saying {
         message: format!(in alloc; "the letter {letter} is marked by two menus")?,
-        own: Remark::new(alloc, Part::LastMark(letter), "marked again here")?,
+        own: Remark::new(alloc, LinePart::LastMark(letter), "marked again here")?,
         other: Some(Remark {
-            part: Part::FirstMark(letter),
+            part: LinePart::FirstMark(letter),
             label: format!(in alloc; "Alt-{letter} opens this one")?,
         }),
         mend: String::from_str(alloc, "mark another letter of the title or none")?,
@@ -218,9 +218,9 @@ pub fn item_again(alloc: Global, item: &MenuItem) -> Result<Saying, AllocError> 
     let letter = item.text.letter().unwrap_or('?');
     Ok(Saying {
         message: format!(in alloc; "the letter {letter} is marked twice in this menu")?,
-        own: Remark::new(alloc, Part::LastMark(letter), "marked again here")?,
+        own: Remark::new(alloc, LinePart::LastMark(letter), "marked again here")?,
         other: Some(Remark {
-            part: Part::FirstMark(letter),
+            part: LinePart::FirstMark(letter),
             label: format!(in alloc; "{letter} chooses this one")?,
         }),
         mend: String::from_str(alloc, "mark another letter of the item or none")?,
@@ -234,7 +234,7 @@ pub fn number_again(alloc: Global, window: &Window) -> Result<Saying, AllocError
         message: format!(in alloc; "two windows have the number {number}")?,
         own: Remark::on_word(alloc, 6, "given again here")?,
         other: Some(Remark {
-            part: Part::word(6),
+            part: LinePart::word(6),
             label: format!(in alloc; "Alt-{number} brings this one to the front")?,
         }),
         mend: String::from_str(alloc, "give it another number, or 0 for none")?,

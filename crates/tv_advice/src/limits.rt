@@ -2,7 +2,7 @@
 
 use crate::inputs::domain_words;
 use crate::naming::{with_article, word_of, x_word};
-use crate::saying::{Part, Remark, Saying};
+use crate::saying::{LinePart, Remark, Saying};
 use std::alloc::{AllocError, Global};
 use tv_explain::Reason;
 use tv_model::{Input, Kind, MarkedText, Node};
@@ -11,7 +11,7 @@ use tv_valid::{Chars, DomainSpec};
 fn saying(
     alloc: Global,
     message: String,
-    part: Part,
+    part: LinePart,
     label: &str,
     mend: &str,
 ) -> Result<Saying, AllocError> {
@@ -29,7 +29,7 @@ fn saying(
 /// Tells what sizes a screen may have.
 pub fn screen_size(alloc: Global) -> Result<Saying, AllocError> {
     let message = String::from_str(alloc, "a screen can't have this size")?;
-    let part = Part::Words { first: 1, count: 2 };
+    let part = LinePart::Words { first: 1, count: 2 };
     let label = "20 to 132 columns, and 10 to 60 rows";
     saying(alloc, message, part, label, "take numbers within these")
 }
@@ -37,7 +37,13 @@ pub fn screen_size(alloc: Global) -> Result<Saying, AllocError> {
 // Tells how many of a thing there may be.
 fn too_many(alloc: Global, what: &str, label: &str) -> Result<Saying, AllocError> {
     let message = format!(in alloc; "this {what} is one too many")?;
-    saying(alloc, message, Part::word(0), label, "drop some of them")
+    saying(
+        alloc,
+        message,
+        LinePart::word(0),
+        label,
+        "drop some of them",
+    )
 }
 
 // Tells which numbers a command may have, the command being this word of its line.
@@ -47,7 +53,7 @@ fn command_number(alloc: Global, at: usize) -> Result<Saying, AllocError> {
     saying(
         alloc,
         message,
-        Part::word(at),
+        LinePart::word(at),
         label,
         "take a number from 100 to 255",
     )
@@ -57,13 +63,19 @@ fn command_number(alloc: Global, at: usize) -> Result<Saying, AllocError> {
 fn text_length(alloc: Global, what: &str, at: usize) -> Result<Saying, AllocError> {
     let message = format!(in alloc; "{what} is too long")?;
     let label = "a text has at most 120 characters";
-    saying(alloc, message, Part::word(at), label, "write a shorter one")
+    saying(
+        alloc,
+        message,
+        LinePart::word(at),
+        label,
+        "write a shorter one",
+    )
 }
 
 fn corner(alloc: Global, node: &Node) -> Result<Saying, AllocError> {
     let word = word_of(&node.kind);
     let message = format!(in alloc; "this {word} stands too far off")?;
-    let part = Part::Words {
+    let part = LinePart::Words {
         first: x_word(&node.kind),
         count: 2,
     };
@@ -88,7 +100,7 @@ fn width(alloc: Global, node: &Node) -> Result<Saying, AllocError> {
     let message = format!(in alloc; "this {word} can't be {w} wide")?;
     let one = with_article(&node.kind);
     let label = format!(in alloc; "{one} is {widths} columns wide")?;
-    let part = Part::word(x_word(&node.kind).saturating_add(2));
+    let part = LinePart::word(x_word(&node.kind).saturating_add(2));
     saying(alloc, message, part, &label, "take a width within these")
 }
 
@@ -105,7 +117,7 @@ fn height(alloc: Global, node: &Node) -> Result<Saying, AllocError> {
     let heights = heights(&node.kind);
     let message = format!(in alloc; "this {word} can't be so high")?;
     let label = format!(in alloc; "a {word} is {heights} rows high")?;
-    let part = Part::word(x_word(&node.kind).saturating_add(3));
+    let part = LinePart::word(x_word(&node.kind).saturating_add(3));
     saying(alloc, message, part, &label, "take a height within these")
 }
 
@@ -119,7 +131,7 @@ fn items(alloc: Global, node: &Node) -> Result<Saying, AllocError> {
     saying(
         alloc,
         message,
-        Part::word(further),
+        LinePart::word(further),
         label,
         "drop some of them",
     )
@@ -143,7 +155,7 @@ fn amount(alloc: Global, node: &Node) -> Result<Saying, AllocError> {
             saying(
                 alloc,
                 message,
-                Part::word(6),
+                LinePart::word(6),
                 label,
                 "take a number from 0 to 9",
             )
@@ -155,7 +167,7 @@ fn amount(alloc: Global, node: &Node) -> Result<Saying, AllocError> {
             saying(
                 alloc,
                 message,
-                Part::word(5),
+                LinePart::word(5),
                 label,
                 "take a number from 1 to 120",
             )
@@ -219,7 +231,7 @@ fn nested(alloc: Global) -> Result<Saying, AllocError> {
     saying(
         alloc,
         message,
-        Part::word(0),
+        LinePart::word(0),
         label,
         "put it into one pane less",
     )

@@ -1,8 +1,8 @@
 //! What is told of names, and of what rules name: F1 and F6 to F8.
 
-use crate::known::{Known, Wanted};
 use crate::naming::{called, name_of, one_of_items, text_of, with_article, word_of};
-use crate::saying::{Part, Remark, Saying};
+use crate::saying::{LinePart, Remark, Saying};
+use crate::view_names::{Bearer, ViewNames};
 use std::alloc::{AllocError, Global};
 use tv_explain::Reason;
 use tv_model::{Effect, Kind, Node, Rule};
@@ -20,7 +20,7 @@ pub fn name_again(alloc: Global, node: &Node, other: &Node) -> Result<Saying, Al
         message: format!(in alloc; "the name `{name}` is given twice{place}")?,
         own: Remark::on_word(alloc, 1, "given again here")?,
         other: Some(Remark {
-            part: Part::word(1),
+            part: LinePart::word(1),
             label: format!(in alloc; "this {word} has the name")?,
         }),
         mend: String::from_str(alloc, "give one of the two another name")?,
@@ -30,13 +30,13 @@ pub fn name_again(alloc: Global, node: &Node, other: &Node) -> Result<Saying, Al
 // How to mend a name that isn't there: by one that is near to it, or so.
 fn name_mend(
     alloc: Global,
-    known: Option<&Known>,
+    names: Option<&ViewNames>,
     name: &str,
-    wanted: Wanted,
+    bearer: Bearer,
     mend: &str,
 ) -> Result<String, AllocError> {
-    let nearest = match known {
-        Some(known) => known.nearest(alloc, name, wanted)?,
+    let nearest = match names {
+        Some(names) => names.nearest(alloc, name, bearer)?,
         None => None,
     };
     match nearest {
@@ -48,7 +48,7 @@ fn name_mend(
 /// Tells where a label leads, which is to no control.
 pub fn label_link(
     alloc: Global,
-    known: Option<&Known>,
+    names: Option<&ViewNames>,
     node: &Node,
     other: Option<&Node>,
 ) -> Result<Saying, AllocError> {
@@ -77,9 +77,9 @@ pub fn label_link(
             other: None,
             mend: name_mend(
                 alloc,
-                known,
+                names,
                 &name,
-                Wanted::Control,
+                Bearer::Control,
                 "name a control of this dialog",
             )?,
         }),
@@ -103,14 +103,18 @@ fn target_name(alloc: Global, rule: &Rule) -> Result<String, AllocError> {
     }
 }
 
-fn unknown_target(alloc: Global, known: Option<&Known>, rule: &Rule) -> Result<Saying, AllocError> {
+fn unknown_target(
+    alloc: Global,
+    names: Option<&ViewNames>,
+    rule: &Rule,
+) -> Result<Saying, AllocError> {
     let name = target_name(alloc, rule)?;
     let mend = "name a control or a pane of this dialog";
     Ok(Saying {
         message: format!(in alloc; "this rule shows `{name}`, which isn't there")?,
         own: Remark::on_word(alloc, 1, "no control and no pane of this dialog")?,
         other: None,
-        mend: name_mend(alloc, known, &name, Wanted::ControlOrPane, mend)?,
+        mend: name_mend(alloc, names, &name, Bearer::ControlOrPane, mend)?,
     })
 }
 
@@ -139,7 +143,7 @@ fn no_cluster(alloc: Global, rule: &Rule, found: &Node) -> Result<Saying, AllocE
 
 fn unknown_cluster(
     alloc: Global,
-    known: Option<&Known>,
+    names: Option<&ViewNames>,
     rule: &Rule,
 ) -> Result<Saying, AllocError> {
     let name = text_of(alloc, rule.cluster.as_slice())?;
@@ -149,14 +153,14 @@ fn unknown_cluster(
         message: format!(in alloc; "this rule goes by `{name}`, which isn't there")?,
         own: Remark::on_word(alloc, 3, label)?,
         other: None,
-        mend: name_mend(alloc, known, &name, Wanted::Cluster, mend)?,
+        mend: name_mend(alloc, names, &name, Bearer::Cluster, mend)?,
     })
 }
 
 /// Tells what a rule names that isn't there.
 pub fn rule_unknown(
     alloc: Global,
-    known: Option<&Known>,
+    names: Option<&ViewNames>,
     rule: &Rule,
     reason: Reason,
     other: Option<&Node>,
@@ -164,8 +168,8 @@ pub fn rule_unknown(
     match (reason, other) {
         (Reason::UnknownItem, Some(cluster)) => unknown_item(alloc, rule, cluster),
         (Reason::NoCluster, Some(found)) => no_cluster(alloc, rule, found),
-        (Reason::UnknownCluster, _) => unknown_cluster(alloc, known, rule),
-        _ => unknown_target(alloc, known, rule),
+        (Reason::UnknownCluster, _) => unknown_cluster(alloc, names, rule),
+        _ => unknown_target(alloc, names, rule),
     }
 }
 
@@ -176,7 +180,7 @@ pub fn rule_shows_itself(alloc: Global, rule: &Rule, cluster: &Node) -> Result<S
     Ok(Saying {
         message: format!(in alloc; "this rule may hide {cluster}, by which it goes")?,
         own: Remark {
-            part: Part::word(1),
+            part: LinePart::word(1),
             label: format!(in alloc; "`{target}` is hidden while the item isn't marked")?,
         },
         other: Some(Remark::on_word(alloc, 1, "and with it the place to mark the item")?),

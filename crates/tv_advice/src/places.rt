@@ -3,7 +3,7 @@
 use crate::index::Index;
 use crate::naming::{called, word_of, x_word};
 use crate::room::{Extent, Room, extent_text, height};
-use crate::saying::{Part, Remark, Saying};
+use crate::saying::{LinePart, Remark, Saying};
 use std::alloc::{AllocError, Global};
 use tv_faults::least_width;
 use tv_model::{Kind, Node};
@@ -326,7 +326,7 @@ fn outside_in(
         return Ok(Saying {
             message,
             own: Remark {
-                part: Part::word(column_word(&node.kind, own, room.columns)),
+                part: LinePart::word(column_word(&node.kind, own, room.columns)),
                 label,
             },
             other: Some(other),
@@ -337,7 +337,7 @@ fn outside_in(
     Ok(Saying {
         message,
         own: Remark {
-            part: Part::word(row_word(&node.kind, own, room.rows)),
+            part: LinePart::word(row_word(&node.kind, own, room.rows)),
             label: outside_label(alloc, ("row", "rows"), own, room.rows)?,
         },
         other: Some(other),
@@ -358,7 +358,7 @@ pub fn outside_owner(
         "width and height with the frame"
     };
     let other = Remark {
-        part: Part::Words { first: 4, count: 2 },
+        part: LinePart::Words { first: 4, count: 2 },
         label: String::from_str(alloc, label)?,
     };
     let (word, around) = (word_of(&node.kind), word_of(&owner.kind));
@@ -369,7 +369,7 @@ pub fn outside_owner(
 /// Tells how a dialog lies outside the desktop.
 pub fn off_desktop(alloc: Global, index: &Index, node: &Node) -> Result<Saying, AllocError> {
     let other = Remark {
-        part: Part::Words { first: 1, count: 2 },
+        part: LinePart::Words { first: 1, count: 2 },
         label: String::from_str(
             alloc,
             "columns and rows, the bar and the status line among them",
@@ -462,14 +462,14 @@ pub fn overlap(
     Ok(Saying {
         message: format!(in alloc; "this {word} overlaps {first}")?,
         own: Remark {
-            part: Part::Words {
+            part: LinePart::Words {
                 first: x_word(&node.kind),
                 count: 3,
             },
             label: place_text(alloc, node)?,
         },
         other: Some(Remark {
-            part: Part::Words {
+            part: LinePart::Words {
                 first: x_word(&other.kind),
                 count: 3,
             },

@@ -5,7 +5,7 @@ use std::alloc::{AllocError, Global};
 
 /// Which words of a line something is about. The keyword is word 0.
 #[derive(Clone, Copy, Debug, PartialEq, Eq)]
-pub enum Part {
+pub enum LinePart {
     /// So many words from this one on.
     Words { first: usize, count: usize },
     /// The first mark of the letter.
@@ -16,10 +16,10 @@ pub enum Part {
     At(Span),
 }
 
-impl Part {
+impl LinePart {
     /// Returns one word.
-    pub fn word(at: usize) -> Part {
-        Part::Words {
+    pub fn word(at: usize) -> LinePart {
+        LinePart::Words {
             first: at,
             count: 1,
         }
@@ -29,13 +29,13 @@ impl Part {
 /// A part of a line, and what is said of it.
 #[derive(Debug, Drop)]
 pub struct Remark {
-    pub part: Part,
+    pub part: LinePart,
     pub label: String,
 }
 
 impl Remark {
     /// Says this of a part.
-    pub fn new(alloc: Global, part: Part, label: &str) -> Result<Remark, AllocError> {
+    pub fn new(alloc: Global, part: LinePart, label: &str) -> Result<Remark, AllocError> {
         Ok(Remark {
             part,
             label: String::from_str(alloc, label)?,
@@ -44,7 +44,7 @@ impl Remark {
 
     /// Says this of one word.
     pub fn on_word(alloc: Global, at: usize, label: &str) -> Result<Remark, AllocError> {
-        Remark::new(alloc, Part::word(at), label)
+        Remark::new(alloc, LinePart::word(at), label)
     }
 }
 

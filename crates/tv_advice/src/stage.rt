@@ -2,9 +2,9 @@
 
 use crate::forms::Language;
 
-/// The parts of a description, in their order.
+/// The sections of a description, in their order.
 #[derive(Clone, Copy, Debug, PartialEq, Eq, PartialOrd, Ord)]
-pub enum Part {
+pub enum Section {
     Screen,
     Start,
     Menus,
@@ -18,8 +18,8 @@ pub enum Part {
 pub enum Stage {
     Version,
     Screen,
-    /// Nothing is open, this part being the last.
-    Between(Part),
+    /// Nothing is open, this section being the last.
+    Between(Section),
     /// A menu, with or without an item.
     InMenu { has_items: bool },
     InWindow,
@@ -45,14 +45,14 @@ pub enum Stage {
 // The most panes around one another that can be read.
 const MOST_PANES: usize = 16;
 
-// The part that a line with this keyword stands in, if nothing is open there.
-fn part_of(keyword: &str) -> Option<Part> {
+// The section that a line with this keyword stands in, if nothing is open there.
+fn section_of(keyword: &str) -> Option<Section> {
     Some(match keyword {
-        "start" => Part::Start,
-        "menu" => Part::Menus,
-        "status" => Part::Status,
-        "window" => Part::Windows,
-        "dialog" => Part::Dialogs,
+        "start" => Section::Start,
+        "menu" => Section::Menus,
+        "status" => Section::Status,
+        "window" => Section::Windows,
+        "dialog" => Section::Dialogs,
         _ => return None,
     })
 }
@@ -64,22 +64,22 @@ fn is_view(keyword: &str) -> bool {
     )
 }
 
-// Whether a line with this keyword can follow this part.
-fn may_follow(part: Part, keyword: &str) -> bool {
-    match part_of(keyword) {
-        Some(Part::Start) => part == Part::Screen,
-        Some(next) => part <= next,
+// Whether a line with this keyword can follow this section.
+fn may_follow(section: Section, keyword: &str) -> bool {
+    match section_of(keyword) {
+        Some(Section::Start) => section == Section::Screen,
+        Some(next) => section <= next,
         None => false,
     }
 }
 
-// The stage after a line with this keyword, where nothing is open and this part was the last.
-fn outside(part: Part, keyword: &str) -> Stage {
+// The stage after a line with this keyword, where nothing is open and this section was the last.
+fn outside(section: Section, keyword: &str) -> Stage {
     match keyword {
-        "tvd" | "screen" | "end" => Stage::Between(part),
-        "start" => Stage::Between(part.max(Part::Start)),
+        "tvd" | "screen" | "end" => Stage::Between(section),
+        "start" => Stage::Between(section.max(Section::Start)),
         "menu" => Stage::InMenu { has_items: false },
-        "status" => Stage::Between(Part::Status),
+        "status" => Stage::Between(Section::Status),
         "window" => Stage::InWindow,
         "dialog" => Stage::InViews(0),
         _ => Stage::Lost,
@@ -89,11 +89,11 @@ fn outside(part: Part, keyword: &str) -> Stage {
 // The stage after a line with this keyword among views, so many panes being open.
 fn among_views(panes: usize, keyword: &str) -> Stage {
     match keyword {
-        "end" if panes == 0 => Stage::Between(Part::Dialogs),
+        "end" if panes == 0 => Stage::Between(Section::Dialogs),
         "end" => Stage::InViews(panes.saturating_sub(1)),
         "pane" => Stage::InViews(panes.saturating_add(1)),
         "show" | "enable" => Stage::InRules,
-        "menu" | "status" | "window" | "dialog" => outside(Part::Dialogs, keyword),
+        "menu" | "status" | "window" | "dialog" => outside(Section::Dialogs, keyword),
         _ => Stage::InViews(panes),
     }
 }
@@ -101,8 +101,8 @@ fn among_views(panes: usize, keyword: &str) -> Stage {
 // The stage after a line with this keyword among rules.
 fn among_rules(keyword: &str) -> Stage {
     match keyword {
-        "end" => Stage::Between(Part::Dialogs),
-        "menu" | "status" | "window" | "dialog" => outside(Part::Dialogs, keyword),
+        "end" => Stage::Between(Section::Dialogs),
+        "menu" | "status" | "window" | "dialog" => outside(Section::Dialogs, keyword),
         _ if keyword == "pane" || is_view(keyword) => among_views(0, keyword),
         _ => Stage::InRules,
     }
@@ -135,7 +135,7 @@ impl Stage {
         match self {
             Stage::Version => keyword == "tvd",
             Stage::Screen => keyword == "screen",
-            Stage::Between(part) => may_follow(part, keyword),
+            Stage::Between(section) => may_follow(section, keyword),
             Stage::InMenu { has_items } => keyword == "item" || (has_items && keyword == "end"),
             Stage::InWindow => keyword == "text" || keyword == "end",
             Stage::InViews(panes) => match keyword {
@@ -157,23 +157,23 @@ impl Stage {
     pub fn after(self, keyword: &str) -> Stage {
         match self {
             Stage::Version if keyword == "tvd" => Stage::Screen,
-            Stage::Version | Stage::Screen => outside(Part::Screen, keyword),
-            Stage::Between(part) => outside(part, keyword),
+            Stage::Version | Stage::Screen => outside(Section::Screen, keyword),
+            Stage::Between(section) => outside(section, keyword),
             Stage::InMenu { .. } => match keyword {
                 "item" => Stage::InMenu { has_items: true },
-                "end" => Stage::Between(Part::Menus),
-                "menu" | "status" | "window" | "dialog" => outside(Part::Menus, keyword),
+                "end" => Stage::Between(Section::Menus),
+                "menu" | "status" | "window" | "dialog" => outside(Section::Menus, keyword),
                 _ => self,
             },
             Stage::InWindow => match keyword {
-                "end" => Stage::Between(Part::Windows),
-                "menu" | "status" | "window" | "dialog" => outside(Part::Windows, keyword),
+                "end" => Stage::Between(Section::Windows),
+                "menu" | "status" | "window" | "dialog" => outside(Section::Windows, keyword),
                 _ => self,
             },
             Stage::InViews(panes) => among_views(panes, keyword),
             Stage::InRules => among_rules(keyword),
             Stage::Lost => match keyword {
-                "window" | "dialog" => outside(Part::Dialogs, keyword),
+                "window" | "dialog" => outside(Section::Dialogs, keyword),
                 _ => self,
             },
             Stage::Script => self,

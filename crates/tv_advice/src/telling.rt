@@ -197,7 +197,12 @@ fn saying_for_view(
     match fault {
         ViewFault::Overlap => saying_for_overlap(alloc, index, declared.owner, node, other),
         ViewFault::LetterTwice => saying_for_letter(alloc, index, declared, node, other),
-        ViewFault::LabelLink => Ok(Some(label_link(alloc, index.known(declared), node, other)?)),
+        ViewFault::LabelLink => Ok(Some(label_link(
+            alloc,
+            index.view_names(declared),
+            node,
+            other,
+        )?)),
         ViewFault::SecondDefault => Ok(Some(second_default(alloc)?)),
         ViewFault::EmptyDomain => saying_for_domain(alloc, node, why, line),
         ViewFault::BadStart => bad_start(alloc, node),
@@ -218,8 +223,8 @@ fn saying_for_rule(
     let other = other_node(index, why);
     match fault {
         RuleFault::UnknownInRule => {
-            let known = index.known(declared);
-            Ok(Some(rule_unknown(alloc, known, rule, why.reason, other)?))
+            let names = index.view_names(declared);
+            Ok(Some(rule_unknown(alloc, names, rule, why.reason, other)?))
         }
         RuleFault::ShowsItself => match other {
             Some(cluster) => Ok(Some(rule_shows_itself(alloc, rule, cluster)?)),

@@ -2,12 +2,12 @@
 
 ghost use Rattle.std.specs.Prelude.{◌≡◌, IfOk};
 
+use crate::context::{Context, Unclosed};
 use crate::forms::{Language, nearest_keyword};
 use crate::judging::{
-    Judged, Trouble, end_of, judge, keyword_in, missing_line, text_at, trouble_with,
+    Complaint, Judged, complaint_about, end_of, judge, keyword_in, missing_line, text_at,
 };
 use crate::note::Note;
-use crate::reading::{Block, Reading};
 use crate::spans::{Span, line_in, line_of, lines_of, readable, words};
 use std::alloc::{AllocError, Global};
 use tv_words::Lines;
@@ -28,9 +28,9 @@ pub struct Unread {
 // The most lines that are told of behind the first.
 const MOST: usize = 99;
 
-// Where a block was opened.
-fn opening(alloc: Global, lines: &[&str], block: Block) -> Result<Note, AllocError> {
-    let Block { line, keyword } = block;
+// Where it was opened.
+fn opening(alloc: Global, lines: &[&str], unclosed: Unclosed) -> Result<Note, AllocError> {
+    let Unclosed { line, keyword } = unclosed;
     let spans = words(alloc, line_in(lines, line))?;
     let span = match (spans.first(), spans.get(1)) {
         (Some(first), Some(second)) => Span::between(first.column, second.end()),
@@ -45,25 +45,25 @@ fn opening(alloc: Global, lines: &[&str], block: Block) -> Result<Note, AllocErr
     })
 }
 
-// The trouble, on the line of this number.
+// The complaint, on the line of this number.
 fn unread_on(
     alloc: Global,
     lines: &[&str],
-    trouble: Trouble,
+    complaint: Complaint,
     number: usize,
 ) -> Result<Unread, AllocError>
     ensures { IfOk result (λ unread. unread.own.line ≡ number) }
 {
-    let Trouble {
+    let Complaint {
         message,
         span,
         label,
         form,
         mend,
-        block,
-    } = trouble;
-    let other = match block {
-        Some(block) => Some(opening(alloc, lines, block)?),
+        unclosed,
+    } = complaint;
+    let other = match unclosed {
+        Some(unclosed) => Some(opening(alloc, lines, unclosed)?),
         None => None,
     };
     Ok(Unread {
@@ -81,24 +81,24 @@ fn unread_on(
 }
 
 // What is wrong with the line of this number.
-fn trouble_at(
+fn complaint_at(
     alloc: Global,
     language: Language,
     text: &[u8],
     number: usize,
-) -> Result<Trouble, AllocError> {
-    let mut reading = Reading::new(alloc, language);
+) -> Result<Complaint, AllocError> {
+    let mut context = Context::new(alloc, language);
     let mut at = 0_usize;
     for line in Lines::new(text) {
         at = at.saturating_add(1);
         if at == number {
-            return trouble_with(alloc, language, line, &reading);
+            return complaint_about(alloc, language, line, &context);
         }
         if let Some(keyword) = keyword_in(language, readable(line)) {
-            reading.pass(at, keyword)?;
+            context.pass(at, keyword)?;
         }
     }
-    missing_line(alloc, &reading)
+    missing_line(alloc, &context)
 }
 
 /// Explains why the line of this number of a text can't be read, where those before it can.
@@ -111,8 +111,8 @@ pub fn explain_line(
     ensures { IfOk result (λ unread. unread.own.line ≡ number) }
 {
     let lines = lines_of(alloc, text)?;
-    let trouble = trouble_at(alloc, language, text, number)?;
-    unread_on(alloc, &lines, trouble, number)
+    let complaint = complaint_at(alloc, language, text, number)?;
+    unread_on(alloc, &lines, complaint, number)
 }
 
 // The keyword of a line up to the first that can't be read, or of that one what it is nearest to.
@@ -134,16 +134,16 @@ fn judge_behind(
     alloc: Global,
     language: Language,
     line: &[u8],
-    reading: &Reading,
+    context: &Context,
     at: usize,
     number: usize,
 ) -> Result<Judged, AllocError> {
     if number < at {
-        return judge(alloc, language, line, reading);
+        return judge(alloc, language, line, context);
     }
     Ok(Judged {
         keyword: keyword_before(alloc, language, line, at == number)?,
-        trouble: None,
+        complaint: None,
     })
 }
 
@@ -156,7 +156,7 @@ pub fn explain_behind(
     number: usize,
 ) -> Result<Vec<Unread>, AllocError> {
     let lines = lines_of(alloc, text)?;
-    let mut reading = Reading::new(alloc, language);
+    let mut context = Context::new(alloc, language);
     let mut found = Vec::new(alloc);
     let mut at = 0_usize;
     for line in Lines::new(text) {
@@ -164,19 +164,19 @@ pub fn explain_behind(
         if found.len() >= MOST {
             return Ok(found);
         }
-        let Judged { keyword, trouble } = judge_behind(
-            alloc, language, line, &reading, at, number,
+        let Judged { keyword, complaint } = judge_behind(
+            alloc, language, line, &context, at, number,
         )?;
-        if let Some(trouble) = trouble {
-            found.push(unread_on(alloc, &lines, trouble, at)?)?;
+        if let Some(complaint) = complaint {
+            found.push(unread_on(alloc, &lines, complaint, at)?)?;
         }
         if let Some(keyword) = keyword {
-            reading.pass(at, keyword)?;
+            context.pass(at, keyword)?;
         }
     }
-    if number <= at && !reading.stage.may_end() && reading.innermost().is_some() {
-        let trouble = missing_line(alloc, &reading)?;
-        found.push(unread_on(alloc, &lines, trouble, at.saturating_add(1))?)?;
+    if number <= at && !context.stage.may_end() && context.innermost().is_some() {
+        let complaint = missing_line(alloc, &context)?;
+        found.push(unread_on(alloc, &lines, complaint, at.saturating_add(1))?)?;
     }
     Ok(found)
 }
@@ -190,9 +190,9 @@ pub fn explain_version(alloc: Global, lines: &[&str], number: usize) -> Result<U
     let span = spans.get(1).copied().unwrap_or(end_of(line));
     let version = text_at(alloc, line, span)?;
     let message = format!(in alloc; "the language has no version {version}")?;
-    let trouble = Trouble::new(alloc, &message, span, "the versions are 1 and 2")?;
-    let trouble = trouble.mended_by(alloc, "write `tvd 1` or `tvd 2`")?;
-    unread_on(alloc, lines, trouble, number)
+    let complaint = Complaint::new(alloc, &message, span, "the versions are 1 and 2")?;
+    let complaint = complaint.mended_by(alloc, "write `tvd 1` or `tvd 2`")?;
+    unread_on(alloc, lines, complaint, number)
 }
 
 // Where the point of a mouse line stands: its second and third words.
@@ -222,7 +222,7 @@ pub fn explain_point(
     let right = width.saturating_sub(1);
     let bottom = height.saturating_sub(1);
     let label = format!(in alloc; "columns are 0 to {right}, rows 0 to {bottom}")?;
-    let trouble = Trouble::new(alloc, &message, span, &label)?;
-    let trouble = trouble.mended_by(alloc, "take a point of the description's screen")?;
-    unread_on(alloc, &[], trouble, number)
+    let complaint = Complaint::new(alloc, &message, span, &label)?;
+    let complaint = complaint.mended_by(alloc, "take a point of the description's screen")?;
+    unread_on(alloc, &[], complaint, number)
 }

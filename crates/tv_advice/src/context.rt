@@ -1,28 +1,28 @@
-//! How far a text is read: what is open, and where it was opened.
+//! What a line of a text stands in: what may come next, and what is open.
 
 use crate::forms::Language;
 use crate::stage::Stage;
 use std::alloc::{AllocError, Global};
 
-/// A block that is open: the line that opened it, and its keyword.
+/// A menu, a window, a dialog or a pane that no `end` has closed yet: the line that opened it, and its keyword.
 #[derive(Clone, Copy, Debug, PartialEq, Eq)]
-pub struct Block {
+pub struct Unclosed {
     pub line: usize,
     pub keyword: &'static str,
 }
 
-/// How far a text is read.
+/// What the lines so far say of the next one.
 #[derive(Drop)]
-pub struct Reading {
+pub struct Context {
     pub stage: Stage,
-    // The blocks that are open, the innermost last.
-    open: Vec<Block>,
+    // What is open, the innermost last.
+    open: Vec<Unclosed>,
 }
 
-impl Reading {
+impl Context {
     /// Begins a text.
-    pub fn new(alloc: Global, language: Language) -> Reading {
-        Reading {
+    pub fn new(alloc: Global, language: Language) -> Context {
+        Context {
             stage: Stage::first(language),
             open: Vec::new(alloc),
         }
@@ -34,9 +34,9 @@ impl Reading {
         match keyword {
             "menu" | "window" | "dialog" => {
                 self.open.clear();
-                self.open.push(Block { line, keyword })?;
+                self.open.push(Unclosed { line, keyword })?;
             }
-            "pane" => self.open.push(Block { line, keyword })?,
+            "pane" => self.open.push(Unclosed { line, keyword })?,
             "end" => {
                 self.open.pop();
             }
@@ -46,8 +46,8 @@ impl Reading {
         Ok(())
     }
 
-    /// Returns the innermost block that is open.
-    pub fn innermost(&self) -> Option<Block> {
+    /// Returns the innermost of what is open.
+    pub fn innermost(&self) -> Option<Unclosed> {
         self.open.last().copied()
     }
 }

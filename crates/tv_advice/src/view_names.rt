@@ -7,19 +7,19 @@ use tv_model::{Dialog, Kind};
 
 /// What a name has to be the name of.
 #[derive(Clone, Copy, Debug, PartialEq, Eq)]
-pub enum Wanted {
+pub enum Bearer {
     Control,
     ControlOrPane,
     Cluster,
 }
 
-impl Wanted {
+impl Bearer {
     // Whether such a view may have the name.
     fn allows(self, kind: &Kind) -> bool {
         match self {
-            Wanted::Control => kind.is_control(),
-            Wanted::ControlOrPane => kind.is_control() || kind.is_pane(),
-            Wanted::Cluster => matches!(kind, Kind::CheckBoxes(_) | Kind::RadioButtons(_)),
+            Bearer::Control => kind.is_control(),
+            Bearer::ControlOrPane => kind.is_control() || kind.is_pane(),
+            Bearer::Cluster => matches!(kind, Kind::CheckBoxes(_) | Kind::RadioButtons(_)),
         }
     }
 }
@@ -33,7 +33,7 @@ struct Named<'a> {
 
 /// The names of a dialog.
 #[derive(Drop)]
-pub struct Known<'a> {
+pub struct ViewNames<'a> {
     names: Vec<Named<'a>>,
 }
 
@@ -43,10 +43,14 @@ const MOST: usize = 64;
 // The most dialogs of a description.
 const MOST_DIALOGS: usize = 16;
 
-impl<'a> Known<'a> {
+impl<'a> ViewNames<'a> {
     /// Collects the names of the dialog at this place among the dialogs. Of what is beyond the limits there are none: so
     /// few names are compared, however long the text is.
-    pub fn new(alloc: Global, place: usize, dialog: &'a Dialog) -> Result<Known<'a>, AllocError> {
+    pub fn new(
+        alloc: Global,
+        place: usize,
+        dialog: &'a Dialog,
+    ) -> Result<ViewNames<'a>, AllocError> {
         let mut names = Vec::new(alloc);
         let views = dialog.views.as_slice();
         let is_within = place < MOST_DIALOGS
@@ -63,7 +67,7 @@ impl<'a> Known<'a> {
                 }
             }
         }
-        Ok(Known { names })
+        Ok(ViewNames { names })
     }
 
     fn name_at(&self, place: Option<usize>) -> Option<&str> {
@@ -76,12 +80,12 @@ impl<'a> Known<'a> {
         &self,
         alloc: Global,
         name: &str,
-        wanted: Wanted,
+        bearer: Bearer,
     ) -> Result<Option<&str>, AllocError> {
         let unknown = Unknown::new(alloc, name)?;
         let mut nearest = Nearest::none();
         for (place, named) in self.names.iter().enumerate() {
-            if wanted.allows(named.kind) {
+            if bearer.allows(named.kind) {
                 nearest = unknown.compare(alloc, nearest, place, &named.name)?;
             }
         }
