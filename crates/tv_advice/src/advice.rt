@@ -104,12 +104,13 @@ fn noted_other(
 
 // What is told where there is no more to tell.
 fn plain_saying(alloc: Global) -> Result<Saying, AllocError> {
-    Ok(Saying {
-        message: String::from_str(alloc, "this line has a fault")?,
-        own: Remark::on_word(alloc, 0, "here")?,
-        other: None,
-        mend: String::from_str(alloc, "see docs/FAULTS.md")?,
-    })
+    Saying::new(
+        alloc,
+        "this line has a fault",
+        LinePart::word(0),
+        "here",
+        "see docs/FAULTS.md",
+    )
 }
 
 /// Tells what a fault is, where it stands, what else has to do with it, and how to mend it.

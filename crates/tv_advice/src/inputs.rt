@@ -2,7 +2,7 @@
 
 use crate::naming::one_of_items;
 use crate::pictures::{Flaw, find_flaw};
-use crate::saying::{LinePart, Remark, Saying};
+use crate::saying::{LinePart, Saying};
 use crate::spans::{Span, words};
 use std::alloc::{AllocError, Global};
 use tv_explain::Reason;
@@ -58,39 +58,32 @@ fn bad_picture(alloc: Global, input: &Input, line: &str) -> Result<Saying, Alloc
     };
     let Flaw { place, label, mend } = find_flaw(alloc, picture, count)?;
     let span = picture_span(alloc, line, place)?;
-    Ok(Saying {
-        message: String::from_str(alloc, "the picture of this input is spelled wrong")?,
-        own: Remark::new(alloc, LinePart::At(span), label)?,
-        other: None,
-        mend: String::from_str(alloc, mend)?,
-    })
+    let message = "the picture of this input is spelled wrong";
+    Saying::new(alloc, message, LinePart::At(span), label, mend)
 }
+
+// What is said of a domain that no text fits.
+const EMPTY: &str = "nothing that can be typed into this input is right";
 
 fn no_text(alloc: Global, input: &Input) -> Result<Saying, AllocError> {
     let max = input.spec.max;
     let count = domain_words(&input.spec).saturating_add(1);
-    Ok(Saying {
-        message: String::from_str(alloc, "nothing that can be typed into this input is right")?,
-        own: Remark {
-            part: LinePart::Words { first: 5, count },
-            label: format!(in alloc; "no right text has {max} characters or fewer")?,
-        },
-        other: None,
-        mend: String::from_str(alloc, "allow more characters, or ask for less")?,
-    })
+    let part = LinePart::Words { first: 5, count };
+    let label = format!(in alloc; "no right text has {max} characters or fewer")?;
+    Saying::new(
+        alloc,
+        EMPTY,
+        part,
+        &label,
+        "allow more characters, or ask for less",
+    )
 }
 
 // A range without numbers.
 fn no_number(alloc: Global, least: i32, greatest: i32) -> Result<Saying, AllocError> {
-    Ok(Saying {
-        message: String::from_str(alloc, "nothing that can be typed into this input is right")?,
-        own: Remark {
-            part: LinePart::Words { first: 6, count: 3 },
-            label: format!(in alloc; "there is no number from {least} to {greatest}")?,
-        },
-        other: None,
-        mend: String::from_str(alloc, "write the lesser number first")?,
-    })
+    let part = LinePart::Words { first: 6, count: 3 };
+    let label = format!(in alloc; "there is no number from {least} to {greatest}")?;
+    Saying::new(alloc, EMPTY, part, &label, "write the lesser number first")
 }
 
 /// Tells why nothing can fill an input.
@@ -109,21 +102,32 @@ pub fn empty_domain(
     }
 }
 
-// What is said of an item that is marked or chosen at first, in this word, of a node with so many items.
-fn start_item(
-    alloc: Global,
-    done: &str,
+/// An item that is marked or chosen at first and isn't there, in this word, of a node with so many items.
+#[derive(Clone, Copy)]
+struct StartItem {
+    done: &'static str,
     at: usize,
     item: i32,
     count: usize,
-) -> Result<Saying, AllocError> {
+}
+
+fn start_item(alloc: Global, start: StartItem) -> Result<Saying, AllocError> {
+    let StartItem {
+        done,
+        at,
+        item,
+        count,
+    } = start;
     let are = if count == 1 { "is" } else { "are" };
-    Ok(Saying {
-        message: format!(in alloc; "item {item} can't be {done} at first: there {are} {count}")?,
-        own: Remark::on_word(alloc, at, "items count from 1")?,
-        other: None,
-        mend: one_of_items(alloc, count)?,
-    })
+    let message = format!(in alloc; "item {item} can't be {done} at first: there {are} {count}")?;
+    let mend = one_of_items(alloc, count)?;
+    Saying::new(
+        alloc,
+        &message,
+        LinePart::word(at),
+        "items count from 1",
+        &mend,
+    )
 }
 
 // The place of the first of the items that isn't there, and that item.
@@ -144,43 +148,55 @@ fn start_text(alloc: Global, input: &Input) -> Result<Saying, AllocError> {
     } else {
         String::from_str(alloc, "no right text begins so")?
     };
-    Ok(Saying {
-        message: String::from_str(alloc, "the first text of this input can't be typed there")?,
-        own: Remark {
-            part: LinePart::word(at),
-            label,
-        },
-        other: None,
-        mend: String::from_str(alloc, "begin with a right text, or with \"\"")?,
+    let message = "the first text of this input can't be typed there";
+    let mend = "begin with a right text, or with \"\"";
+    Saying::new(alloc, message, LinePart::word(at), &label, mend)
+}
+
+// The item of a node that is marked or chosen at first and isn't there.
+fn missing_start(kind: &Kind) -> Option<StartItem> {
+    Some(match kind {
+        Kind::CheckBoxes(boxes) => {
+            let count = boxes.items.as_slice().len();
+            let (place, item) = first_missing(boxes.start.as_slice(), count);
+            StartItem {
+                done: "marked",
+                at: count.saturating_add(6).saturating_add(place),
+                item,
+                count,
+            }
+        }
+        Kind::RadioButtons(radios) => {
+            let count = radios.items.as_slice().len();
+            StartItem {
+                done: "marked",
+                at: count.saturating_add(6),
+                item: radios.start,
+                count,
+            }
+        }
+        Kind::List(list) => {
+            let count = list.items.as_slice().len();
+            StartItem {
+                done: "chosen",
+                at: count.saturating_add(7),
+                item: list.start,
+                count,
+            }
+        }
+        _ => return None,
     })
 }
 
 /// Tells what can't be at the start of a node.
 pub fn bad_start(alloc: Global, node: &Node) -> Result<Option<Saying>, AllocError> {
-    Ok(Some(match &node.kind {
-        Kind::Input(input) => start_text(alloc, input)?,
-        Kind::CheckBoxes(boxes) => {
-            let count = boxes.items.as_slice().len();
-            let (place, item) = first_missing(boxes.start.as_slice(), count);
-            let at = count.saturating_add(6).saturating_add(place);
-            start_item(alloc, "marked", at, item, count)?
-        }
-        Kind::RadioButtons(radios) => {
-            let count = radios.items.as_slice().len();
-            start_item(
-                alloc,
-                "marked",
-                count.saturating_add(6),
-                radios.start,
-                count,
-            )?
-        }
-        Kind::List(list) => {
-            let count = list.items.as_slice().len();
-            start_item(alloc, "chosen", count.saturating_add(7), list.start, count)?
-        }
-        _ => return Ok(None),
-    }))
+    if let Kind::Input(input) = &node.kind {
+        return Ok(Some(start_text(alloc, input)?));
+    }
+    match missing_start(&node.kind) {
+        Some(start) => Ok(Some(start_item(alloc, start)?)),
+        None => Ok(None),
+    }
 }
 
 // Whether the character takes one column.
@@ -218,28 +234,26 @@ fn line_end(alloc: Global, what: &str, line: &str) -> Result<Saying, AllocError>
         column: line_end_in(line),
         len: 2,
     };
-    Ok(Saying {
-        message: format!(in alloc; "a line end can't stand in this {what}")?,
-        own: Remark::new(alloc, LinePart::At(span), "this is shown in one row")?,
-        other: None,
-        mend: String::from_str(alloc, "write a space, or two texts")?,
-    })
+    let message = format!(in alloc; "a line end can't stand in this {what}")?;
+    let label = "this is shown in one row";
+    let mend = "write a space, or two texts";
+    Saying::new(alloc, &message, LinePart::At(span), label, mend)
+}
+
+fn wide_at(alloc: Global, what: &str, column: usize, ch: char) -> Result<Saying, AllocError> {
+    let code = u32::from(ch);
+    let columns = columns_of(ch);
+    let message = format!(in alloc; "a character of this {what} doesn't take one column")?;
+    let part = LinePart::At(Span::at(column));
+    let label = format!(in alloc; "U+{code:04X} takes {columns}")?;
+    let mend = "write it with characters of one column";
+    Saying::new(alloc, &message, part, &label, mend)
 }
 
 /// Tells which character of a line, the declaration of what is called so, doesn't take one column.
 pub fn wide_character(alloc: Global, what: &str, line: &str) -> Result<Saying, AllocError> {
-    let Some((column, ch)) = wide_in(line) else {
-        return line_end(alloc, what, line);
-    };
-    let code = u32::from(ch);
-    let columns = columns_of(ch);
-    Ok(Saying {
-        message: format!(in alloc; "a character of this {what} doesn't take one column")?,
-        own: Remark {
-            part: LinePart::At(Span::at(column)),
-            label: format!(in alloc; "U+{code:04X} takes {columns}")?,
-        },
-        other: None,
-        mend: String::from_str(alloc, "write it with characters of one column")?,
-    })
+    match wide_in(line) {
+        Some((column, ch)) => wide_at(alloc, what, column, ch),
+        None => line_end(alloc, what, line),
+    }
 }

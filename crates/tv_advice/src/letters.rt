@@ -1,7 +1,7 @@
 //! What is told of letters, keys and numbers: F4, F5 and F17.
 
 use crate::naming::key_text;
-use crate::saying::{LinePart, Remark, Saying};
+use crate::saying::{LinePart, Saying};
 use std::alloc::{AllocError, Global};
 use std::collections::HashSet;
 use tv_event::Key;
@@ -123,16 +123,11 @@ pub fn letter_again(
         Some(text) => letter_mend(alloc, letters, status, text)?,
         None => String::from_str(alloc, "mark another letter or none")?,
     };
-    let told = format!(in alloc; "Alt-{letter} is this one's")?;
-    Ok(Saying {
-        message: format!(in alloc; "the letter {letter} is marked twice in this dialog")?,
-        own: Remark::new(alloc, LinePart::LastMark(letter), "marked again here")?,
-        other: Some(Remark {
-            part: LinePart::FirstMark(letter),
-            label: told,
-        }),
-        mend,
-    })
+    let message = format!(in alloc; "the letter {letter} is marked twice in this dialog")?;
+    let part = LinePart::LastMark(letter);
+    let saying = Saying::new(alloc, &message, part, "marked again here", &mend)?;
+    let label = format!(in alloc; "Alt-{letter} is this one's")?;
+    saying.with_other(alloc, LinePart::FirstMark(letter), &label)
 }
 
 // The letter or digit of a key with Alt.
@@ -143,110 +138,116 @@ fn alt_letter(key: Key) -> char {
     }
 }
 
-// A key that means something else, or is given before.
-fn taken_key(
-    alloc: Global,
-    message: String,
-    label: &str,
-    other: Remark,
-) -> Result<Saying, AllocError> {
-    Ok(Saying {
-        message,
-        own: Remark::on_word(alloc, 2, label)?,
-        other: Some(other),
-        mend: String::from_str(alloc, "take a key that means nothing else")?,
+/// What the key of a status item means already, or that it is given before.
+#[derive(Clone, Copy)]
+struct Clash {
+    /// What is said before the key, and behind it.
+    words: (&'static str, &'static str),
+    label: &'static str,
+    /// Where the other line shows the key, and what is said of it.
+    other: (LinePart, &'static str),
+}
+
+const FIRST: &str = "status keys come before all others";
+
+// What a key means already, if a status item could have it otherwise.
+fn clash_of(key: Key, reason: Reason) -> Option<Clash> {
+    let mark = LinePart::FirstMark(alt_letter(key));
+    Some(match reason {
+        Reason::DialogLetter => Clash {
+            words: ("", "is a shortcut of a dialog"),
+            label: FIRST,
+            other: (mark, "this one shows the letter"),
+        },
+        Reason::TitleLetter => Clash {
+            words: ("", "opens a menu"),
+            label: FIRST,
+            other: (mark, "this menu shows the letter"),
+        },
+        Reason::WindowDigit => Clash {
+            words: ("", "brings a window to the front"),
+            label: FIRST,
+            other: (LinePart::word(6), "the window's number"),
+        },
+        Reason::KeyTwice => Clash {
+            words: ("the key ", "is given twice"),
+            label: "given again here",
+            other: (LinePart::word(2), "this one has the key"),
+        },
+        _ => return None,
     })
+}
+
+// A key that means something else, or is given before.
+fn taken_key(alloc: Global, key: &str, clash: Clash) -> Result<Saying, AllocError> {
+    let Clash {
+        words: (before, behind),
+        label,
+        other: (part, shown),
+    } = clash;
+    let message = format!(in alloc; "{before}{key} {behind}")?;
+    let mend = "take a key that means nothing else";
+    let saying = Saying::new(alloc, &message, LinePart::word(2), label, mend)?;
+    saying.with_other(alloc, part, shown)
 }
 
 // A key that no status item can have.
 fn unfit_key(alloc: Global, key: &str) -> Result<Saying, AllocError> {
+    let message = format!(in alloc; "a status item can't have {key}")?;
+    let label = "this key belongs to dialogs";
     let mend = "take F1 to F12, Ctrl with a letter but Y, or Alt with a letter or digit";
-    Ok(Saying {
-        message: format!(in alloc; "a status item can't have {key}")?,
-        own: Remark::on_word(alloc, 2, "this key belongs to dialogs")?,
-        other: None,
-        mend: String::from_str(alloc, mend)?,
-    })
+    Saying::new(alloc, &message, LinePart::word(2), label, mend)
 }
 
 /// Tells why a status item can't have its key.
 pub fn status_key(alloc: Global, item: &StatusItem, reason: Reason) -> Result<Saying, AllocError> {
     let key = key_text(alloc, item.key)?;
-    let first_mark = LinePart::FirstMark(alt_letter(item.key));
-    let first = "status keys come before all others";
-    match reason {
-        Reason::DialogLetter => {
-            let message = format!(in alloc; "{key} is a shortcut of a dialog")?;
-            let other = Remark::new(alloc, first_mark, "this one shows the letter")?;
-            taken_key(alloc, message, first, other)
-        }
-        Reason::TitleLetter => {
-            let message = format!(in alloc; "{key} opens a menu")?;
-            let other = Remark::new(alloc, first_mark, "this menu shows the letter")?;
-            taken_key(alloc, message, first, other)
-        }
-        Reason::WindowDigit => {
-            let message = format!(in alloc; "{key} brings a window to the front")?;
-            let other = Remark::on_word(alloc, 6, "the window's number")?;
-            taken_key(alloc, message, first, other)
-        }
-        Reason::KeyTwice => {
-            let message = format!(in alloc; "the key {key} is given twice")?;
-            let other = Remark::on_word(alloc, 2, "this one has the key")?;
-            taken_key(alloc, message, "given again here", other)
-        }
-        _ => unfit_key(alloc, &key),
+    match clash_of(item.key, reason) {
+        Some(clash) => taken_key(alloc, &key, clash),
+        None => unfit_key(alloc, &key),
     }
 }
 
 /// Tells which letter the menu's title marks again.
 pub fn title_again(alloc: Global, menu: &Menu) -> Result<Saying, AllocError> {
     let letter = menu.title.letter().unwrap_or('?');
-    Ok(Saying {
-        message: format!(in alloc; "the letter {letter} is marked by two menus")?,
-        own: Remark::new(alloc, LinePart::LastMark(letter), "marked again here")?,
-        other: Some(Remark {
-            part: LinePart::FirstMark(letter),
-            label: format!(in alloc; "Alt-{letter} opens this one")?,
-        }),
-        mend: String::from_str(alloc, "mark another letter of the title or none")?,
-    })
+    let message = format!(in alloc; "the letter {letter} is marked by two menus")?;
+    let part = LinePart::LastMark(letter);
+    let mend = "mark another letter of the title or none";
+    let saying = Saying::new(alloc, &message, part, "marked again here", mend)?;
+    let label = format!(in alloc; "Alt-{letter} opens this one")?;
+    saying.with_other(alloc, LinePart::FirstMark(letter), &label)
 }
 
 /// Tells which letter the item marks again.
 pub fn item_again(alloc: Global, item: &MenuItem) -> Result<Saying, AllocError> {
     let letter = item.text.letter().unwrap_or('?');
-    Ok(Saying {
-        message: format!(in alloc; "the letter {letter} is marked twice in this menu")?,
-        own: Remark::new(alloc, LinePart::LastMark(letter), "marked again here")?,
-        other: Some(Remark {
-            part: LinePart::FirstMark(letter),
-            label: format!(in alloc; "{letter} chooses this one")?,
-        }),
-        mend: String::from_str(alloc, "mark another letter of the item or none")?,
-    })
+    let message = format!(in alloc; "the letter {letter} is marked twice in this menu")?;
+    let part = LinePart::LastMark(letter);
+    let mend = "mark another letter of the item or none";
+    let saying = Saying::new(alloc, &message, part, "marked again here", mend)?;
+    let label = format!(in alloc; "{letter} chooses this one")?;
+    saying.with_other(alloc, LinePart::FirstMark(letter), &label)
 }
 
 /// Tells which number the window has again.
 pub fn number_again(alloc: Global, window: &Window) -> Result<Saying, AllocError> {
     let number = window.head().number;
-    Ok(Saying {
-        message: format!(in alloc; "two windows have the number {number}")?,
-        own: Remark::on_word(alloc, 6, "given again here")?,
-        other: Some(Remark {
-            part: LinePart::word(6),
-            label: format!(in alloc; "Alt-{number} brings this one to the front")?,
-        }),
-        mend: String::from_str(alloc, "give it another number, or 0 for none")?,
-    })
+    let message = format!(in alloc; "two windows have the number {number}")?;
+    let part = LinePart::word(6);
+    let mend = "give it another number, or 0 for none";
+    let saying = Saying::new(alloc, &message, part, "given again here", mend)?;
+    let label = format!(in alloc; "Alt-{number} brings this one to the front")?;
+    saying.with_other(alloc, part, &label)
 }
 
 /// Tells that a rule can't speak of its command.
 pub fn rules_cancel(alloc: Global) -> Result<Saying, AllocError> {
-    Ok(Saying {
-        message: String::from_str(alloc, "no rule may disable the way out of a dialog")?,
-        own: Remark::on_word(alloc, 1, "a dialog can always be left by this")?,
-        other: None,
-        mend: String::from_str(alloc, "drop the rule, or let it speak of another command")?,
-    })
+    Saying::new(
+        alloc,
+        "no rule may disable the way out of a dialog",
+        LinePart::word(1),
+        "a dialog can always be left by this",
+        "drop the rule, or let it speak of another command",
+    )
 }

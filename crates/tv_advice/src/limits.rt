@@ -2,44 +2,26 @@
 
 use crate::inputs::domain_words;
 use crate::naming::{with_article, word_of, x_word};
-use crate::saying::{LinePart, Remark, Saying};
+use crate::saying::{LinePart, Saying};
 use std::alloc::{AllocError, Global};
 use tv_explain::Reason;
 use tv_model::{Input, Kind, MarkedText, Node};
 use tv_valid::{Chars, DomainSpec};
 
-fn saying(
-    alloc: Global,
-    message: String,
-    part: LinePart,
-    label: &str,
-    mend: &str,
-) -> Result<Saying, AllocError> {
-    Ok(Saying {
-        message,
-        own: Remark {
-            part,
-            label: String::from_str(alloc, label)?,
-        },
-        other: None,
-        mend: String::from_str(alloc, mend)?,
-    })
-}
-
 /// Tells what sizes a screen may have.
 pub fn screen_size(alloc: Global) -> Result<Saying, AllocError> {
-    let message = String::from_str(alloc, "a screen can't have this size")?;
+    let message = "a screen can't have this size";
     let part = LinePart::Words { first: 1, count: 2 };
     let label = "20 to 132 columns, and 10 to 60 rows";
-    saying(alloc, message, part, label, "take numbers within these")
+    Saying::new(alloc, message, part, label, "take numbers within these")
 }
 
 // Tells how many of a thing there may be.
 fn too_many(alloc: Global, what: &str, label: &str) -> Result<Saying, AllocError> {
     let message = format!(in alloc; "this {what} is one too many")?;
-    saying(
+    Saying::new(
         alloc,
-        message,
+        &message,
         LinePart::word(0),
         label,
         "drop some of them",
@@ -48,9 +30,9 @@ fn too_many(alloc: Global, what: &str, label: &str) -> Result<Saying, AllocError
 
 // Tells which numbers a command may have, the command being this word of its line.
 fn command_number(alloc: Global, at: usize) -> Result<Saying, AllocError> {
-    let message = String::from_str(alloc, "this number is no command")?;
+    let message = "this number is no command";
     let label = "a command's number is 100 to 255";
-    saying(
+    Saying::new(
         alloc,
         message,
         LinePart::word(at),
@@ -63,9 +45,9 @@ fn command_number(alloc: Global, at: usize) -> Result<Saying, AllocError> {
 fn text_length(alloc: Global, what: &str, at: usize) -> Result<Saying, AllocError> {
     let message = format!(in alloc; "{what} is too long")?;
     let label = "a text has at most 120 characters";
-    saying(
+    Saying::new(
         alloc,
-        message,
+        &message,
         LinePart::word(at),
         label,
         "write a shorter one",
@@ -80,7 +62,7 @@ fn corner(alloc: Global, node: &Node) -> Result<Saying, AllocError> {
         count: 2,
     };
     let label = "a corner stands at -132 to 132";
-    saying(alloc, message, part, label, "take numbers within these")
+    Saying::new(alloc, &message, part, label, "take numbers within these")
 }
 
 // The widths that a node may have.
@@ -101,7 +83,7 @@ fn width(alloc: Global, node: &Node) -> Result<Saying, AllocError> {
     let one = with_article(&node.kind);
     let label = format!(in alloc; "{one} is {widths} columns wide")?;
     let part = LinePart::word(x_word(&node.kind).saturating_add(2));
-    saying(alloc, message, part, &label, "take a width within these")
+    Saying::new(alloc, &message, part, &label, "take a width within these")
 }
 
 // The heights that a node may have.
@@ -118,7 +100,7 @@ fn height(alloc: Global, node: &Node) -> Result<Saying, AllocError> {
     let message = format!(in alloc; "this {word} can't be so high")?;
     let label = format!(in alloc; "a {word} is {heights} rows high")?;
     let part = LinePart::word(x_word(&node.kind).saturating_add(3));
-    saying(alloc, message, part, &label, "take a height within these")
+    Saying::new(alloc, &message, part, &label, "take a height within these")
 }
 
 fn items(alloc: Global, node: &Node) -> Result<Saying, AllocError> {
@@ -128,9 +110,9 @@ fn items(alloc: Global, node: &Node) -> Result<Saying, AllocError> {
         _ => ("a cluster has 1 to 16 items", 21),
     };
     let message = format!(in alloc; "this {word} has too many items")?;
-    saying(
+    Saying::new(
         alloc,
-        message,
+        &message,
         LinePart::word(further),
         label,
         "drop some of them",
@@ -152,9 +134,9 @@ fn amount(alloc: Global, node: &Node) -> Result<Saying, AllocError> {
             let number = head.number;
             let message = format!(in alloc; "a window can't have the number {number}")?;
             let label = "1 to 9, or 0 for none";
-            saying(
+            Saying::new(
                 alloc,
-                message,
+                &message,
                 LinePart::word(6),
                 label,
                 "take a number from 0 to 9",
@@ -164,9 +146,9 @@ fn amount(alloc: Global, node: &Node) -> Result<Saying, AllocError> {
             let max = input.spec.max;
             let message = format!(in alloc; "an input can't have {max} characters")?;
             let label = "1 to 120 characters";
-            saying(
+            Saying::new(
                 alloc,
-                message,
+                &message,
                 LinePart::word(5),
                 label,
                 "take a number from 1 to 120",
@@ -226,9 +208,9 @@ fn node_text(alloc: Global, node: &Node) -> Result<Saying, AllocError> {
 }
 
 fn nested(alloc: Global) -> Result<Saying, AllocError> {
-    let message = String::from_str(alloc, "this pane stands in too many panes")?;
+    let message = "this pane stands in too many panes";
     let label = "there may be 4 panes around one another";
-    saying(
+    Saying::new(
         alloc,
         message,
         LinePart::word(0),

@@ -1,7 +1,7 @@
 //! What is told of names, and of what rules name: F1 and F6 to F8.
 
 use crate::naming::{called, name_of, one_of_items, text_of, with_article, word_of};
-use crate::saying::{LinePart, Remark, Saying};
+use crate::saying::{LinePart, Saying};
 use crate::view_names::{Bearer, ViewNames};
 use std::alloc::{AllocError, Global};
 use tv_explain::Reason;
@@ -15,16 +15,13 @@ pub fn name_again(alloc: Global, node: &Node, other: &Node) -> Result<Saying, Al
     } else {
         " in this dialog"
     };
+    let message = format!(in alloc; "the name `{name}` is given twice{place}")?;
+    let part = LinePart::word(1);
+    let mend = "give one of the two another name";
+    let saying = Saying::new(alloc, &message, part, "given again here", mend)?;
     let word = word_of(&other.kind);
-    Ok(Saying {
-        message: format!(in alloc; "the name `{name}` is given twice{place}")?,
-        own: Remark::on_word(alloc, 1, "given again here")?,
-        other: Some(Remark {
-            part: LinePart::word(1),
-            label: format!(in alloc; "this {word} has the name")?,
-        }),
-        mend: String::from_str(alloc, "give one of the two another name")?,
-    })
+    let label = format!(in alloc; "this {word} has the name")?;
+    saying.with_other(alloc, part, &label)
 }
 
 // How to mend a name that isn't there: by one that is near to it, or so.
@@ -45,6 +42,30 @@ fn name_mend(
     }
 }
 
+// What is said of the name that a label links to, and how to mend it.
+const LINK: &str = "a label stands for a button, input, cluster or list";
+
+const LINK_MEND: &str = "name a control of this dialog";
+
+// Tells that a label links to this, which is no control.
+fn label_to(alloc: Global, name: &str, found: &Node) -> Result<Saying, AllocError> {
+    let word = word_of(&found.kind);
+    let message = format!(in alloc; "this label stands for `{name}`, which is a {word}")?;
+    let saying = Saying::new(alloc, &message, LinePart::word(5), LINK, LINK_MEND)?;
+    saying.with_other(alloc, LinePart::word(1), "this has the name")
+}
+
+// Tells that nothing has the name that a label links to.
+fn label_to_nothing(
+    alloc: Global,
+    names: Option<&ViewNames>,
+    name: &str,
+) -> Result<Saying, AllocError> {
+    let mend = name_mend(alloc, names, name, Bearer::Control, LINK_MEND)?;
+    let message = format!(in alloc; "this label leads nowhere: no control is called `{name}`")?;
+    Saying::new(alloc, &message, LinePart::word(5), LINK, &mend)
+}
+
 /// Tells where a label leads, which is to no control.
 pub fn label_link(
     alloc: Global,
@@ -56,33 +77,9 @@ pub fn label_link(
         Kind::Label(label) => text_of(alloc, label.link.as_slice())?,
         _ => String::new(alloc),
     };
-    let own = Remark::on_word(
-        alloc,
-        5,
-        "a label stands for a button, input, cluster or list",
-    )?;
     match other {
-        Some(found) => {
-            let word = word_of(&found.kind);
-            Ok(Saying {
-                message: format!(in alloc; "this label stands for `{name}`, which is a {word}")?,
-                own,
-                other: Some(Remark::on_word(alloc, 1, "this has the name")?),
-                mend: String::from_str(alloc, "name a control of this dialog")?,
-            })
-        }
-        None => Ok(Saying {
-            message: format!(in alloc; "this label leads nowhere: no control is called `{name}`")?,
-            own,
-            other: None,
-            mend: name_mend(
-                alloc,
-                names,
-                &name,
-                Bearer::Control,
-                "name a control of this dialog",
-            )?,
-        }),
+        Some(found) => label_to(alloc, &name, found),
+        None => label_to_nothing(alloc, names, &name),
     }
 }
 
@@ -110,35 +107,35 @@ fn unknown_target(
 ) -> Result<Saying, AllocError> {
     let name = target_name(alloc, rule)?;
     let mend = "name a control or a pane of this dialog";
-    Ok(Saying {
-        message: format!(in alloc; "this rule shows `{name}`, which isn't there")?,
-        own: Remark::on_word(alloc, 1, "no control and no pane of this dialog")?,
-        other: None,
-        mend: name_mend(alloc, names, &name, Bearer::ControlOrPane, mend)?,
-    })
+    let mend = name_mend(alloc, names, &name, Bearer::ControlOrPane, mend)?;
+    let message = format!(in alloc; "this rule shows `{name}`, which isn't there")?;
+    let label = "no control and no pane of this dialog";
+    Saying::new(alloc, &message, LinePart::word(1), label, &mend)
 }
 
 fn unknown_item(alloc: Global, rule: &Rule, cluster: &Node) -> Result<Saying, AllocError> {
     let name = text_of(alloc, rule.cluster.as_slice())?;
     let count = item_count(cluster);
     let item = rule.item;
-    Ok(Saying {
-        message: format!(in alloc; "this rule goes by item {item} of `{name}`, which has {count}")?,
-        own: Remark::on_word(alloc, 4, "items count from 1")?,
-        other: Some(Remark::on_word(alloc, 1, "the rule's cluster")?),
-        mend: one_of_items(alloc, count)?,
-    })
+    let message = format!(in alloc;
+        "this rule goes by item {item} of `{name}`, which has {count}"
+    )?;
+    let mend = one_of_items(alloc, count)?;
+    let part = LinePart::word(4);
+    let saying = Saying::new(alloc, &message, part, "items count from 1", &mend)?;
+    saying.with_other(alloc, LinePart::word(1), "the rule's cluster")
 }
+
+// How to mend what a rule goes by.
+const CLUSTER_MEND: &str = "name check boxes or radio buttons of this dialog";
 
 fn no_cluster(alloc: Global, rule: &Rule, found: &Node) -> Result<Saying, AllocError> {
     let name = text_of(alloc, rule.cluster.as_slice())?;
     let one = with_article(&found.kind);
-    Ok(Saying {
-        message: format!(in alloc; "this rule goes by `{name}`, which is {one}")?,
-        own: Remark::on_word(alloc, 3, "rules go by check boxes or radio buttons")?,
-        other: Some(Remark::on_word(alloc, 1, "this has the name")?),
-        mend: String::from_str(alloc, "name check boxes or radio buttons of this dialog")?,
-    })
+    let message = format!(in alloc; "this rule goes by `{name}`, which is {one}")?;
+    let label = "rules go by check boxes or radio buttons";
+    let saying = Saying::new(alloc, &message, LinePart::word(3), label, CLUSTER_MEND)?;
+    saying.with_other(alloc, LinePart::word(1), "this has the name")
 }
 
 fn unknown_cluster(
@@ -147,14 +144,10 @@ fn unknown_cluster(
     rule: &Rule,
 ) -> Result<Saying, AllocError> {
     let name = text_of(alloc, rule.cluster.as_slice())?;
+    let mend = name_mend(alloc, names, &name, Bearer::Cluster, CLUSTER_MEND)?;
+    let message = format!(in alloc; "this rule goes by `{name}`, which isn't there")?;
     let label = "no check boxes and no radio buttons of this dialog";
-    let mend = "name check boxes or radio buttons of this dialog";
-    Ok(Saying {
-        message: format!(in alloc; "this rule goes by `{name}`, which isn't there")?,
-        own: Remark::on_word(alloc, 3, label)?,
-        other: None,
-        mend: name_mend(alloc, names, &name, Bearer::Cluster, mend)?,
-    })
+    Saying::new(alloc, &message, LinePart::word(3), label, &mend)
 }
 
 /// Tells what a rule names that isn't there.
@@ -177,13 +170,10 @@ pub fn rule_unknown(
 pub fn rule_shows_itself(alloc: Global, rule: &Rule, cluster: &Node) -> Result<Saying, AllocError> {
     let cluster = called(alloc, cluster)?;
     let target = target_name(alloc, rule)?;
-    Ok(Saying {
-        message: format!(in alloc; "this rule may hide {cluster}, by which it goes")?,
-        own: Remark {
-            part: LinePart::word(1),
-            label: format!(in alloc; "`{target}` is hidden while the item isn't marked")?,
-        },
-        other: Some(Remark::on_word(alloc, 1, "and with it the place to mark the item")?),
-        mend: String::from_str(alloc, "take the cluster out of what the rule shows")?,
-    })
+    let message = format!(in alloc; "this rule may hide {cluster}, by which it goes")?;
+    let label = format!(in alloc; "`{target}` is hidden while the item isn't marked")?;
+    let part = LinePart::word(1);
+    let mend = "take the cluster out of what the rule shows";
+    let saying = Saying::new(alloc, &message, part, &label, mend)?;
+    saying.with_other(alloc, part, "and with it the place to mark the item")
 }

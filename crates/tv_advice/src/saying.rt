@@ -41,11 +41,6 @@ impl Remark {
             label: String::from_str(alloc, label)?,
         })
     }
-
-    /// Says this of one word.
-    pub fn on_word(alloc: Global, at: usize, label: &str) -> Result<Remark, AllocError> {
-        Remark::new(alloc, LinePart::word(at), label)
-    }
 }
 
 /// What is told of a fault.
@@ -57,4 +52,33 @@ pub struct Saying {
     pub other: Option<Remark>,
     /// How to mend it.
     pub mend: String,
+}
+
+impl Saying {
+    /// Says this of a part of the fault's own line, and how to mend it.
+    pub fn new(
+        alloc: Global,
+        message: &str,
+        part: LinePart,
+        label: &str,
+        mend: &str,
+    ) -> Result<Saying, AllocError> {
+        Ok(Saying {
+            message: String::from_str(alloc, message)?,
+            own: Remark::new(alloc, part, label)?,
+            other: None,
+            mend: String::from_str(alloc, mend)?,
+        })
+    }
+
+    /// Says this of a part of the other line too.
+    pub fn with_other(
+        self,
+        alloc: Global,
+        part: LinePart,
+        label: &str,
+    ) -> Result<Saying, AllocError> {
+        let other = Some(Remark::new(alloc, part, label)?);
+        Ok(Saying { other, ..self })
+    }
 }
