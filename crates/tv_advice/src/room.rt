@@ -3,6 +3,32 @@
 use std::alloc::{AllocError, Global};
 use tv_model::{Desc, Kind, Node};
 
+/// Columns or rows: what one is called, several are and all are, and what has fewer or more of them.
+#[derive(Clone, Copy)]
+pub struct Axis {
+    pub one: &'static str,
+    pub several: &'static str,
+    pub all: &'static str,
+    pub less: &'static str,
+    pub more: &'static str,
+}
+
+pub const COLUMNS: Axis = Axis {
+    one: "column",
+    several: "columns",
+    all: "the columns",
+    less: "narrower",
+    more: "wider",
+};
+
+pub const ROWS: Axis = Axis {
+    one: "row",
+    several: "rows",
+    all: "the rows",
+    less: "lower",
+    more: "higher",
+};
+
 /// Columns or rows, the first and the last.
 #[derive(Clone, Copy)]
 pub struct Extent {
@@ -129,6 +155,14 @@ impl Room {
         Room { rows, ..self }
     }
 
+    /// Returns it with so many columns and rows more.
+    pub fn grown_by(self, columns: i64, rows: i64) -> Room {
+        Room {
+            columns: self.columns.longer(columns),
+            rows: self.rows.longer(rows),
+        }
+    }
+
     /// Returns it begun beside another one, below it, and below it at the left of what is around both.
     pub fn places_at(self, other: Room, around: Room) -> [Room; 3] {
         let below = self.rows.moved_to(other.rows.next());
@@ -160,16 +194,13 @@ impl Room {
 }
 
 /// Columns or rows by their numbers.
-pub fn extent_text(
-    alloc: Global,
-    one: &str,
-    several: &str,
-    extent: Extent,
-) -> Result<String, AllocError> {
+pub fn extent_text(alloc: Global, axis: Axis, extent: Extent) -> Result<String, AllocError> {
     let Extent { first, last } = extent;
     if first == last {
+        let one = axis.one;
         format!(in alloc; "{one} {first}")
     } else {
+        let several = axis.several;
         format!(in alloc; "{several} {first} to {last}")
     }
 }
