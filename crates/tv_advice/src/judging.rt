@@ -1,53 +1,15 @@
 //! What is wrong with a line that can't be read.
 
+use crate::complaint::Complaint;
 use crate::context::{Context, Unclosed};
-use crate::fitting::{Want, Wrong, wrong_word};
-use crate::forms::{Form, Language, Rest, form_named, form_of, nearest_keyword};
-use crate::meant::{further_words, meant};
+use crate::fitting::wrong_word;
+use crate::forms::{Form, Language, form_named, form_of, nearest_keyword};
+use crate::misfit::misfit;
 use crate::quotes::find_slip;
-use crate::spans::{Span, readable, words};
+use crate::spans::{Span, end_of, readable, text_at, words};
 use crate::stage::Stage;
 use std::alloc::{AllocError, Global};
 use tv_words::{Word, words_of};
-
-/// What is wrong with a line, before its number is known.
-#[derive(Debug, Drop)]
-pub struct Complaint {
-    pub message: String,
-    pub span: Span,
-    pub label: String,
-    /// The form that the line has to have.
-    pub form: Option<&'static str>,
-    /// How to mend it.
-    pub mend: Option<String>,
-    /// What has to end before it.
-    pub unclosed: Option<Unclosed>,
-}
-
-impl Complaint {
-    /// Says this of a part of the line.
-    pub fn new(
-        alloc: Global,
-        message: &str,
-        span: Span,
-        label: &str,
-    ) -> Result<Complaint, AllocError> {
-        Ok(Complaint {
-            message: String::from_str(alloc, message)?,
-            span,
-            label: String::from_str(alloc, label)?,
-            form: None,
-            mend: None,
-            unclosed: None,
-        })
-    }
-
-    /// Says how to mend it.
-    pub fn mended_by(self, alloc: Global, mend: &str) -> Result<Complaint, AllocError> {
-        let mend = Some(String::from_str(alloc, mend)?);
-        Ok(Complaint { mend, ..self })
-    }
-}
 
 /// A line of a text: what it says that it is, as far as that can be told, and what is wrong with it.
 #[derive(Drop)]
@@ -104,177 +66,25 @@ fn bad_quotes(alloc: Global, line: &str) -> Result<Complaint, AllocError> {
     }
 }
 
-// What a word has to be, and what is said of one that isn't.
-fn wanted(want: Want) -> (&'static str, &'static str) {
-    match want {
-        Want::Num => ("a NUM", "a number is wanted here"),
-        Want::Name => (
-            "a NAME",
-            "a name is wanted here: a lower-case letter, then up to 19 of a-z, 0-9 and -",
-        ),
-        Want::Str => ("a STR", "a quoted text is wanted here"),
-        Want::Marked => (
-            "a MARKED",
-            "a quoted text is wanted here, with one letter between two ~ at most",
-        ),
-        Want::Command => ("a COMMAND", "a command or its number is wanted here"),
-        Want::Key => ("a KEY", "a key is wanted here"),
-        Want::Letter => ("a LETTER", "a digit or a letter from A to Z is wanted here"),
-        Want::This(word) => (word, "this keyword is wanted here"),
-        Want::Domain => (
-            "a domain",
-            "`any`, `filter`, `range` or `picture` is wanted here",
-        ),
-        Want::Nothing => ("nothing", "the line ends before this word"),
-    }
-}
-
-/// Returns the characters of a line at this place.
-pub fn text_at(alloc: Global, line: &str, span: Span) -> Result<String, AllocError> {
-    let mut text = String::new(alloc);
-    for ch in line.chars().skip(span.column).take(span.len) {
-        text.push(ch)?;
-    }
-    Ok(text)
-}
-
-/// Returns where the line ends.
-pub fn end_of(line: &str) -> Span {
-    Span::at(line.chars().count())
-}
-
-// How to mend a word, which stands before this one, where another is wanted.
-fn word_mend(
-    alloc: Global,
-    form: &Form,
-    want: Want,
-    found: &str,
-    next: Option<&Word>,
-) -> Result<Option<String>, AllocError> {
-    if let Some(meant) = meant(alloc, form, want, found)? {
-        return Ok(Some(format!(in alloc; "did you mean `{meant}`?")?));
-    }
-    let is_number = next.is_some_and(|word| word.number().is_some());
-    Ok(match want {
-        Want::This("ends") if further_words(Rest::Ends).contains(&found) => {
-            Some(String::from_str(alloc, "write `ends` before it")?)
-        }
-        Want::This("when") if is_number => Some(String::from_str(alloc, "write `when` before it")?),
-        Want::This("start") if found.parse::<i32>().is_ok() => {
-            Some(String::from_str(alloc, "write `start` before it")?)
-        }
-        Want::This(word) => Some(format!(in alloc; "write `{word}` here")?),
-        Want::Num if found.starts_with("\"") => {
-            Some(String::from_str(alloc, "write the number before it that is missing")?)
-        }
-        Want::Str | Want::Marked if further_words(form.rest).contains(&found) => {
-            Some(String::from_str(alloc, "write a quoted text before it")?)
-        }
-        Want::Key => Some(String::from_str(
-            alloc,
-            "write it as Enter, F10, Alt-X or Ctrl-C are written",
-        )?),
-        Want::Command => Some(String::from_str(
-            alloc,
-            "write quit, menu, close, next, ok, cancel, yes, no or a number",
-        )?),
-        _ => None,
-    })
-}
-
-// The order of the words that may end such a line.
-fn order_of(rest: Rest) -> &'static str {
-    match rest {
-        Rest::Ends => "the order is ok, cancel, yes, no, each once at most",
-        Rest::Button => "the order is default, grab, each once at most",
-        Rest::Domain => "the order is validate, optional, fill, each once at most",
-        _ => "the line ends before this word",
-    }
-}
-
-// A word that may stand in the line, but not behind those before it.
-fn out_of_order(
-    alloc: Global,
-    form: &Form,
-    span: Span,
-    found: &str,
-) -> Result<Complaint, AllocError> {
-    let message = format!(in alloc; "`{found}` can't stand behind the words before it")?;
-    let mut complaint = Complaint::new(alloc, &message, span, order_of(form.rest))?;
-    complaint.form = Some(form.text);
-    complaint.mended_by(alloc, "bring these words into their order")
-}
-
-// A word that isn't there.
-fn missing_word(
-    alloc: Global,
-    line: &str,
-    form: &Form,
-    wrong: Wrong,
-) -> Result<Complaint, AllocError> {
-    let place = wrong.at.saturating_add(1);
-    let (what, label) = wanted(wrong.want);
-    let what = match wrong.want {
-        Want::This(word) => format!(in alloc; "`{word}`")?,
-        _ => String::from_str(alloc, what)?,
-    };
-    let called = form.called;
-    let message = format!(in alloc; "{called} needs {what} as its word {place}")?;
-    let mut complaint = Complaint::new(alloc, &message, end_of(line), label)?;
-    complaint.form = Some(form.text);
-    Ok(complaint)
-}
-
-// A word that is another than is wanted.
-fn other_word(
-    alloc: Global,
-    form: &Form,
-    wrong: Wrong,
-    span: Span,
-    found: &str,
-) -> Result<Complaint, AllocError> {
-    let place = wrong.at.saturating_add(1);
-    let (what, label) = wanted(wrong.want);
-    let called = form.called;
-    let message = match wrong.want {
-        Want::Nothing => format!(in alloc; "{called} has no word {place}")?,
-        Want::This(word) => {
-            format!(in alloc; "{called} needs `{word}` as its word {place}, not {found}")?
-        }
-        _ => format!(in alloc; "{called} needs {what} as its word {place}, not {found}")?,
-    };
-    let mut complaint = Complaint::new(alloc, &message, span, label)?;
-    complaint.form = Some(form.text);
-    Ok(complaint)
-}
-
-// A word that doesn't fit the line's form.
-fn misfit(
-    alloc: Global,
-    line: &str,
-    form: &Form,
-    found: &[Word],
-    wrong: Wrong,
-) -> Result<Complaint, AllocError> {
-    let spans = words(alloc, line)?;
-    let Some(span) = spans.get(wrong.at).copied() else {
-        return missing_word(alloc, line, form, wrong);
-    };
-    let word = text_at(alloc, line, span)?;
-    let known = further_words(form.rest).contains(&word.as_str());
-    if wrong.want == Want::Nothing && known {
-        return out_of_order(alloc, form, span, &word);
-    }
-    let next = found.get(wrong.at.saturating_add(1));
-    let mut complaint = other_word(alloc, form, wrong, span, &word)?;
-    complaint.mend = word_mend(alloc, form, wrong.want, &word, next)?;
-    Ok(complaint)
-}
-
 // Where the first word of a line stands.
 fn keyword_span(alloc: Global, line: &str) -> Result<Span, AllocError> {
     let spans = words(alloc, line)?;
     Ok(spans.first().copied().unwrap_or(end_of(line)))
+}
+
+// How to mend a line that begins with no keyword.
+fn keyword_mend(
+    alloc: Global,
+    nearest: Option<&'static str>,
+    stage: Stage,
+) -> Result<String, AllocError> {
+    match nearest {
+        Some(keyword) => format!(in alloc; "did you mean `{keyword}`?"),
+        None => {
+            let beginnings = stage.beginnings();
+            format!(in alloc; "begin the line with {beginnings}")
+        }
+    }
 }
 
 // A line that begins with no keyword, but maybe with one that is near to this one.
@@ -287,10 +97,7 @@ fn unknown_keyword(
     let span = keyword_span(alloc, line)?;
     let found = text_at(alloc, line, span)?;
     let message = format!(in alloc; "no line begins with {found}")?;
-    let mend = match nearest {
-        Some(keyword) => format!(in alloc; "did you mean `{keyword}`?")?,
-        None => format!(in alloc; "begin the line with {}", stage.beginnings())?,
-    };
+    let mend = keyword_mend(alloc, nearest, stage)?;
     let complaint = Complaint::new(alloc, &message, span, "a keyword is wanted here")?;
     complaint.mended_by(alloc, &mend)
 }
@@ -327,9 +134,8 @@ fn not_rising(
     };
     let span = span.unwrap_or(end_of(line));
     let message = "the numbers behind `start` rise";
-    let mut complaint = Complaint::new(alloc, message, span, "not above the one before")?;
-    complaint.form = Some(form.text);
-    Ok(complaint)
+    let complaint = Complaint::new(alloc, message, span, "not above the one before")?;
+    Ok(complaint.of_form(form))
 }
 
 // A line that is spelled right and can't stand here.
@@ -345,11 +151,12 @@ fn misplaced(
         return not_rising(alloc, line, form, found);
     }
     let span = keyword_span(alloc, line)?;
-    let mut complaint = Complaint::new(alloc, stage.refuses(keyword), span, "not here")?;
+    let complaint = Complaint::new(alloc, stage.refuses(keyword), span, "not here")?;
     if stage.lacks_end(keyword) {
-        complaint.unclosed = context.innermost();
+        Ok(complaint.behind(context.innermost()))
+    } else {
+        Ok(complaint)
     }
-    Ok(complaint)
 }
 
 // Whether a text that is to be typed has a line end.
@@ -470,20 +277,24 @@ pub fn complaint_about(
     }
 }
 
+// What is said where the text ends.
+const TEXT_END: &str = "the text ends here";
+
+// What has to be closed before the text may end.
+fn missing_end(alloc: Global, unclosed: Unclosed) -> Result<Complaint, AllocError> {
+    let Unclosed { line, keyword } = unclosed;
+    let message = format!(in alloc;
+        "the text ends too early: the `end` of the {keyword} in line {line} is missing"
+    )?;
+    let mend = format!(in alloc; "write `end` where the {keyword} ends")?;
+    let complaint = Complaint::new(alloc, &message, Span::at(0), TEXT_END)?;
+    complaint.behind(Some(unclosed)).mended_by(alloc, &mend)
+}
+
 /// Says which line is missing where the text ends here.
 pub fn missing_line(alloc: Global, context: &Context) -> Result<Complaint, AllocError> {
-    let label = "the text ends here";
     match context.innermost() {
-        Some(unclosed) => {
-            let Unclosed { line, keyword } = unclosed;
-            let message = format!(in alloc;
-                "the text ends too early: the `end` of the {keyword} in line {line} is missing"
-            )?;
-            let mut complaint = Complaint::new(alloc, &message, Span::at(0), label)?;
-            complaint.unclosed = Some(unclosed);
-            let mend = format!(in alloc; "write `end` where the {keyword} ends")?;
-            complaint.mended_by(alloc, &mend)
-        }
-        None => Complaint::new(alloc, context.stage.missing(), Span::at(0), label),
+        Some(unclosed) => missing_end(alloc, unclosed),
+        None => Complaint::new(alloc, context.stage.missing(), Span::at(0), TEXT_END),
     }
 }

@@ -84,6 +84,20 @@ pub fn words(alloc: Global, line: &str) -> Result<Vec<Span>, AllocError> {
     Ok(found)
 }
 
+/// Returns the characters of a line at this place.
+pub fn text_at(alloc: Global, line: &str, span: Span) -> Result<String, AllocError> {
+    let mut text = String::new(alloc);
+    for ch in line.chars().skip(span.column).take(span.len) {
+        text.push(ch)?;
+    }
+    Ok(text)
+}
+
+/// Returns where the line ends.
+pub fn end_of(line: &str) -> Span {
+    Span::at(line.chars().count())
+}
+
 /// Returns what of a line is UTF-8, from its beginning on.
 pub fn readable(line: &[u8]) -> &str {
     match str::from_utf8(line) {

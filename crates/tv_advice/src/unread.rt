@@ -2,13 +2,12 @@
 
 ghost use Rattle.std.specs.Prelude.{◌≡◌, IfOk};
 
+use crate::complaint::Complaint;
 use crate::context::{Context, Unclosed};
 use crate::forms::{Language, nearest_keyword};
-use crate::judging::{
-    Complaint, Judged, complaint_about, end_of, judge, keyword_in, missing_line, text_at,
-};
+use crate::judging::{Judged, complaint_about, judge, keyword_in, missing_line};
 use crate::note::Note;
-use crate::spans::{Span, line_in, line_of, lines_of, readable, words};
+use crate::spans::{Span, end_of, line_in, line_of, lines_of, readable, text_at, words};
 use std::alloc::{AllocError, Global};
 use tv_words::Lines;
 
