@@ -135,6 +135,13 @@ impl<'a> Cursor<'a> {
         sees
     }
 
+    // Takes each of these words that comes next, in their order.
+    fn skip_each(&mut self, wants: &[Want]) {
+        for want in wants {
+            self.skip(*want);
+        }
+    }
+
     // Takes words while they are so: those that are left are fewer each time.
     fn skip_all(&mut self, want: Want) {
         for _ in self.at..self.words.len() {
@@ -156,19 +163,46 @@ impl<'a> Cursor<'a> {
 
 const RULE: [Want; 3] = [Want::This("when"), Want::Name, Want::Num];
 
-// An input's domain and what follows it.
+const CHOSEN: [Want; 2] = [Want::This("start"), Want::Num];
+
+// The words that may end the line of an input, of a button and of a dialog.
+const OPTIONS: [Want; 3] = [
+    Want::This("validate"),
+    Want::This("optional"),
+    Want::This("fill"),
+];
+
+const BUTTON: [Want; 2] = [Want::This("default"), Want::This("grab")];
+
+const ENDS: [Want; 4] = [
+    Want::This("ok"),
+    Want::This("cancel"),
+    Want::This("yes"),
+    Want::This("no"),
+];
+
+// An input's domain.
 fn domain(cursor: &mut Cursor) -> Result<(), Wrong> {
-    if cursor.skip(Want::This("filter")) || cursor.skip(Want::This("picture")) {
-        cursor.take(Want::Str)?;
-    } else if cursor.skip(Want::This("range")) {
-        cursor.all(&[Want::Num, Want::Num])?;
-    } else if !cursor.skip(Want::This("any")) {
-        return cursor.wrong(Want::Domain);
+    if cursor.skip(Want::This("any")) {
+        return Ok(());
     }
+    if cursor.skip(Want::This("range")) {
+        return cursor.all(&[Want::Num, Want::Num]);
+    }
+    if cursor.skip(Want::This("filter")) {
+        return cursor.take(Want::Str);
+    }
+    if cursor.skip(Want::This("picture")) {
+        return cursor.take(Want::Str);
+    }
+    cursor.wrong(Want::Domain)
+}
+
+// An input's domain and what follows it.
+fn asked(cursor: &mut Cursor) -> Result<(), Wrong> {
+    domain(cursor)?;
     cursor.take(Want::Str)?;
-    cursor.skip(Want::This("validate"));
-    cursor.skip(Want::This("optional"));
-    cursor.skip(Want::This("fill"));
+    cursor.skip_each(&OPTIONS);
     Ok(())
 }
 
@@ -178,19 +212,24 @@ fn ends(cursor: &mut Cursor) -> Result<(), Wrong> {
         cursor.take(Want::Num)?;
     }
     cursor.take(Want::This("ends"))?;
-    for end in ["ok", "cancel", "yes", "no"] {
-        cursor.skip(Want::This(end));
-    }
+    cursor.skip_each(&ENDS);
     Ok(())
 }
 
-// What follows the items of check boxes.
-fn starts(cursor: &mut Cursor) -> Result<(), Wrong> {
+// The further items of check boxes, and what follows them.
+fn marked(cursor: &mut Cursor) -> Result<(), Wrong> {
+    cursor.skip_all(Want::Marked);
     if cursor.skip(Want::This("start")) {
         cursor.take(Want::Num)?;
         cursor.skip_all(Want::Num);
     }
     Ok(())
+}
+
+// The further items of radio buttons or of a list, and the one that is chosen.
+fn chosen(cursor: &mut Cursor, item: Want) -> Result<(), Wrong> {
+    cursor.skip_all(item);
+    cursor.all(&CHOSEN)
 }
 
 // What follows the name in a certificate's line of a letter.
@@ -207,24 +246,14 @@ fn rest(cursor: &mut Cursor, rest: Rest) -> Result<(), Wrong> {
     match rest {
         Rest::Nothing => Ok(()),
         Rest::Button => {
-            cursor.skip(Want::This("default"));
-            cursor.skip(Want::This("grab"));
+            cursor.skip_each(&BUTTON);
             Ok(())
         }
-        Rest::Domain => domain(cursor),
+        Rest::Domain => asked(cursor),
         Rest::Ends => ends(cursor),
-        Rest::Checks => {
-            cursor.skip_all(Want::Marked);
-            starts(cursor)
-        }
-        Rest::Radios => {
-            cursor.skip_all(Want::Marked);
-            cursor.all(&[Want::This("start"), Want::Num])
-        }
-        Rest::List => {
-            cursor.skip_all(Want::Str);
-            cursor.all(&[Want::This("start"), Want::Num])
-        }
+        Rest::Checks => marked(cursor),
+        Rest::Radios => chosen(cursor, Want::Marked),
+        Rest::List => chosen(cursor, Want::Str),
         Rest::Rule => cursor.all(&RULE),
         Rest::Owner => owner(cursor),
     }

@@ -266,6 +266,16 @@ pub fn form_named(language: Language, keyword: &str) -> Option<&'static Form> {
         .find(|form| form.keyword() == keyword)
 }
 
+// The place among these forms of the one whose keyword is nearest to a word.
+fn nearest_place(alloc: Global, forms: &[Form], word: &str) -> Result<Option<usize>, AllocError> {
+    let unknown = Unknown::new(alloc, word)?;
+    let mut nearest = Nearest::none();
+    for (place, form) in forms.iter().enumerate() {
+        nearest = unknown.compare(alloc, nearest, place, form.keyword())?;
+    }
+    Ok(nearest.place)
+}
+
 /// Finds the keyword of this language that is nearest to the first word of a line.
 pub fn nearest_keyword(
     alloc: Global,
@@ -273,13 +283,8 @@ pub fn nearest_keyword(
     line: &str,
 ) -> Result<Option<&'static str>, AllocError> {
     let word = line.split_whitespace().next().unwrap_or("");
-    let unknown = Unknown::new(alloc, word.trim_matches('"'))?;
     let forms = forms_of(language);
-    let mut nearest = Nearest::none();
-    for (place, form) in forms.iter().enumerate() {
-        nearest = unknown.compare(alloc, nearest, place, form.keyword())?;
-    }
-    Ok(match nearest.place {
+    Ok(match nearest_place(alloc, forms, word.trim_matches('"'))? {
         Some(place) => forms.get(place).map(Form::keyword),
         None => None,
     })

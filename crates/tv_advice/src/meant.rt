@@ -30,26 +30,29 @@ const KEYS: [&str; 17] = [
     "Ins",
 ];
 
-// What else users call a key.
-const OTHER_KEYS: [(&str, &str); 9] = [
-    ("escape", "Esc"),
-    ("return", "Enter"),
-    ("delete", "Del"),
-    ("insert", "Ins"),
-    ("pageup", "PgUp"),
-    ("pagedown", "PgDn"),
-    ("page-up", "PgUp"),
-    ("page-down", "PgDn"),
-    ("backtab", "Shift-Tab"),
-];
+// The key that users call by another name, in lower case.
+fn other_key(word: &str) -> Option<&'static str> {
+    Some(match word {
+        "escape" => "Esc",
+        "return" => "Enter",
+        "delete" => "Del",
+        "insert" => "Ins",
+        "pageup" | "page-up" => "PgUp",
+        "pagedown" | "page-down" => "PgDn",
+        "backtab" => "Shift-Tab",
+        _ => return None,
+    })
+}
 
-// What comes before the letter of a key, in lower case, and how it is written.
-const HEADS: [(&str, &str); 4] = [
-    ("alt", "Alt"),
-    ("control", "Ctrl"),
-    ("ctrl", "Ctrl"),
-    ("^", "Ctrl"),
-];
+// What comes before the letter of a key in lower case, as it is written, and what is behind it.
+fn head_of(word: &str) -> Option<(&'static str, &str)> {
+    if let Some(tail) = word.strip_prefix("alt") {
+        return Some(("Alt", tail));
+    }
+    let ctrl = word.strip_prefix("ctrl").or(word.strip_prefix("control"));
+    let tail = ctrl.or(word.strip_prefix("^"))?;
+    Some(("Ctrl", tail))
+}
 
 // The letter or digit behind such a head, where nothing but it is left, or a sign between.
 fn letter_behind(tail: &str) -> Option<char> {
@@ -67,18 +70,15 @@ fn letter_behind(tail: &str) -> Option<char> {
 
 // The key of a word in lower case that is a letter's with Alt or Ctrl.
 fn lettered_key(alloc: Global, word: &str) -> Result<Option<String>, AllocError> {
-    for (head, name) in HEADS {
-        let letter = match word.strip_prefix(head) {
-            Some(tail) => letter_behind(tail),
-            None => None,
-        };
-        if let Some(letter) = letter
-            && (name == "Alt" || letter.is_ascii_alphabetic())
-        {
-            return Ok(Some(format!(in alloc; "{name}-{letter}")?));
+    let Some((head, tail)) = head_of(word) else {
+        return Ok(None);
+    };
+    match letter_behind(tail) {
+        Some(letter) if head == "Alt" || letter.is_ascii_alphabetic() => {
+            Ok(Some(format!(in alloc; "{head}-{letter}")?))
         }
+        _ => Ok(None),
     }
-    Ok(None)
 }
 
 // The number of a function key that is called by a word in lower case.
@@ -100,12 +100,10 @@ fn meant_key(alloc: Global, word: &str) -> Result<Option<String>, AllocError> {
     if let Some(number) = function_number(&lower) {
         return Ok(Some(format!(in alloc; "F{number}")?));
     }
-    for (other, name) in OTHER_KEYS {
-        if lower.as_str() == other {
-            return Ok(Some(String::from_str(alloc, name)?));
-        }
+    match other_key(&lower) {
+        Some(name) => Ok(Some(String::from_str(alloc, name)?)),
+        None => meant_among(alloc, word, &KEYS),
     }
-    meant_among(alloc, word, &KEYS)
 }
 
 // The word of these that was meant.

@@ -73,6 +73,39 @@ fn may_follow(section: Section, keyword: &str) -> bool {
     }
 }
 
+// Whether a line with this keyword can come in a menu.
+fn menu_takes(has_items: bool, keyword: &str) -> bool {
+    match keyword {
+        "item" => true,
+        "end" => has_items,
+        _ => false,
+    }
+}
+
+// Whether a line with this keyword can come among views, so many panes being open.
+fn views_take(panes: usize, keyword: &str) -> bool {
+    match keyword {
+        "pane" => panes < MOST_PANES,
+        "show" | "enable" => panes == 0,
+        "end" => true,
+        _ => is_view(keyword),
+    }
+}
+
+// Whether an `end` is missing before a line with this keyword among views, so many panes being open.
+fn views_lack_end(panes: usize, keyword: &str) -> bool {
+    match keyword {
+        "dialog" => true,
+        "show" | "enable" => panes > 0,
+        _ => false,
+    }
+}
+
+// Whether a line with this keyword begins a menu, a status item, a window or a dialog.
+fn begins_section(keyword: &str) -> bool {
+    matches!(keyword, "menu" | "status" | "window" | "dialog")
+}
+
 // The stage after a line with this keyword, where nothing is open and this section was the last.
 fn outside(section: Section, keyword: &str) -> Stage {
     match keyword {
@@ -86,6 +119,33 @@ fn outside(section: Section, keyword: &str) -> Stage {
     }
 }
 
+// The stage after a line with this keyword in a menu, with or without an item.
+fn in_items(has_items: bool, keyword: &str) -> Stage {
+    match keyword {
+        "item" => Stage::InMenu { has_items: true },
+        "end" => Stage::Between(Section::Menus),
+        _ if begins_section(keyword) => outside(Section::Menus, keyword),
+        _ => Stage::InMenu { has_items },
+    }
+}
+
+// The stage after a line with this keyword among the texts of a window.
+fn among_texts(keyword: &str) -> Stage {
+    match keyword {
+        "end" => Stage::Between(Section::Windows),
+        _ if begins_section(keyword) => outside(Section::Windows, keyword),
+        _ => Stage::InWindow,
+    }
+}
+
+// The stage after a line with this keyword behind lines that nothing before them begins.
+fn behind_lost(keyword: &str) -> Stage {
+    match keyword {
+        "window" | "dialog" => outside(Section::Dialogs, keyword),
+        _ => Stage::Lost,
+    }
+}
+
 // The stage after a line with this keyword among views, so many panes being open.
 fn among_views(panes: usize, keyword: &str) -> Stage {
     match keyword {
@@ -93,7 +153,7 @@ fn among_views(panes: usize, keyword: &str) -> Stage {
         "end" => Stage::InViews(panes.saturating_sub(1)),
         "pane" => Stage::InViews(panes.saturating_add(1)),
         "show" | "enable" => Stage::InRules,
-        "menu" | "status" | "window" | "dialog" => outside(Section::Dialogs, keyword),
+        _ if begins_section(keyword) => outside(Section::Dialogs, keyword),
         _ => Stage::InViews(panes),
     }
 }
@@ -102,8 +162,9 @@ fn among_views(panes: usize, keyword: &str) -> Stage {
 fn among_rules(keyword: &str) -> Stage {
     match keyword {
         "end" => Stage::Between(Section::Dialogs),
-        "menu" | "status" | "window" | "dialog" => outside(Section::Dialogs, keyword),
-        _ if keyword == "pane" || is_view(keyword) => among_views(0, keyword),
+        "pane" => Stage::InViews(1),
+        _ if begins_section(keyword) => outside(Section::Dialogs, keyword),
+        _ if is_view(keyword) => Stage::InViews(0),
         _ => Stage::InRules,
     }
 }
@@ -136,19 +197,15 @@ impl Stage {
             Stage::Version => keyword == "tvd",
             Stage::Screen => keyword == "screen",
             Stage::Between(section) => may_follow(section, keyword),
-            Stage::InMenu { has_items } => keyword == "item" || (has_items && keyword == "end"),
-            Stage::InWindow => keyword == "text" || keyword == "end",
-            Stage::InViews(panes) => match keyword {
-                "pane" => panes < MOST_PANES,
-                "show" | "enable" => panes == 0,
-                _ => keyword == "end" || is_view(keyword),
-            },
-            Stage::InRules => keyword == "end" || is_rule(keyword),
+            Stage::InMenu { has_items } => menu_takes(has_items, keyword),
+            Stage::InWindow => matches!(keyword, "text" | "end"),
+            Stage::InViews(panes) => views_take(panes, keyword),
+            Stage::InRules => matches!(keyword, "show" | "enable" | "end"),
             Stage::Heading => keyword == "tvcert",
             Stage::Blocks => keyword == "dialog",
             Stage::NoTabs => keyword == "tab",
-            Stage::Tabs => keyword == "tab" || keyword == "key" || keyword == "end",
-            Stage::Keys => keyword == "key" || keyword == "end",
+            Stage::Tabs => matches!(keyword, "tab" | "key" | "end"),
+            Stage::Keys => matches!(keyword, "key" | "end"),
             Stage::Lost | Stage::Script => true,
         }
     }
@@ -159,23 +216,11 @@ impl Stage {
             Stage::Version if keyword == "tvd" => Stage::Screen,
             Stage::Version | Stage::Screen => outside(Section::Screen, keyword),
             Stage::Between(section) => outside(section, keyword),
-            Stage::InMenu { .. } => match keyword {
-                "item" => Stage::InMenu { has_items: true },
-                "end" => Stage::Between(Section::Menus),
-                "menu" | "status" | "window" | "dialog" => outside(Section::Menus, keyword),
-                _ => self,
-            },
-            Stage::InWindow => match keyword {
-                "end" => Stage::Between(Section::Windows),
-                "menu" | "status" | "window" | "dialog" => outside(Section::Windows, keyword),
-                _ => self,
-            },
+            Stage::InMenu { has_items } => in_items(has_items, keyword),
+            Stage::InWindow => among_texts(keyword),
             Stage::InViews(panes) => among_views(panes, keyword),
             Stage::InRules => among_rules(keyword),
-            Stage::Lost => match keyword {
-                "window" | "dialog" => outside(Section::Dialogs, keyword),
-                _ => self,
-            },
+            Stage::Lost => behind_lost(keyword),
             Stage::Script => self,
             Stage::Heading | Stage::Blocks | Stage::NoTabs | Stage::Tabs | Stage::Keys => {
                 in_certificate(self, keyword)
@@ -194,9 +239,9 @@ impl Stage {
     /// Whether a line with this keyword can't come here since an `end` is missing before it.
     pub fn lacks_end(self, keyword: &str) -> bool {
         match self {
-            Stage::InMenu { .. } => { matches!(keyword, "menu" | "status" | "window" | "dialog") }
-            Stage::InWindow => keyword == "window" || keyword == "dialog",
-            Stage::InViews(panes) => keyword == "dialog" || (panes > 0 && is_rule(keyword)),
+            Stage::InMenu { .. } => begins_section(keyword),
+            Stage::InWindow => matches!(keyword, "window" | "dialog"),
+            Stage::InViews(panes) => views_lack_end(panes, keyword),
             Stage::InRules | Stage::Tabs | Stage::Keys => keyword == "dialog",
             _ => false,
         }
@@ -237,7 +282,6 @@ impl Stage {
             Stage::Version => "the first line is `tvd 1`, or `tvd 2`",
             Stage::Screen => "the second line is `screen` with its columns and rows",
             Stage::Between(_) | Stage::Lost => between(keyword),
-            Stage::InMenu { .. } if keyword == "end" => "a menu has an item at least",
             Stage::InMenu { .. } => in_menu(keyword),
             Stage::InWindow => in_window(keyword),
             Stage::InViews(panes) => in_views(keyword, panes),
@@ -266,15 +310,11 @@ fn between(keyword: &str) -> &'static str {
     }
 }
 
-fn is_rule(keyword: &str) -> bool {
-    keyword == "show" || keyword == "enable"
-}
-
 fn in_views(keyword: &str, panes: usize) -> &'static str {
     match keyword {
         "pane" => "16 panes are open already",
         "dialog" => "an `end` is missing before this line",
-        _ if is_rule(keyword) && panes > 0 => {
+        "show" | "enable" if panes > 0 => {
             "rules stand behind all views: the `end` of a pane is missing before this line"
         }
         _ => between(keyword),
@@ -283,6 +323,7 @@ fn in_views(keyword: &str, panes: usize) -> &'static str {
 
 fn in_menu(keyword: &str) -> &'static str {
     match keyword {
+        "end" => "a menu has an item at least",
         "menu" | "status" | "window" | "dialog" => {
             "only items stand in a menu: an `end` is missing before this line"
         }
