@@ -74,6 +74,18 @@ struct Excerpt {
     width: usize,
 }
 
+impl Excerpt {
+    // The lines of these two notes.
+    fn new(manner: Manner, own: &Note, other: Option<&Note>) -> Excerpt {
+        let width = digits(own.line);
+        let width = match other {
+            Some(other) => width.max(digits(other.line)),
+            None => width,
+        };
+        Excerpt { manner, width }
+    }
+}
+
 // The message, the lines of the text that have to do with the fault, and how to mend it.
 fn advice_lines(
     alloc: Global,
@@ -82,10 +94,7 @@ fn advice_lines(
     advice: &Advice,
 ) -> Result<String, AllocError> {
     let mut told = format!(in alloc; ": {}\n", advice.message)?;
-    let excerpt = Excerpt {
-        manner: source.manner,
-        width: width_of(&advice.own, advice.other.as_ref()),
-    };
+    let excerpt = Excerpt::new(source.manner, &advice.own, advice.other.as_ref());
     if let Some(other) = &advice.other {
         let shown = Shown::new(index.line(other.line), other, Mark::Other);
         push_note(alloc, &mut told, excerpt, shown)?;
@@ -96,15 +105,6 @@ fn advice_lines(
     Ok(told)
 }
 
-// The columns of the longest number of the lines of these two notes.
-fn width_of(own: &Note, other: Option<&Note>) -> usize {
-    let width = digits(own.line);
-    match other {
-        Some(other) => width.max(digits(other.line)),
-        None => width,
-    }
-}
-
 // The message, the lines that have to do with it, and what helps.
 fn unread_lines(
     alloc: Global,
@@ -113,23 +113,31 @@ fn unread_lines(
     unread: &Unread,
 ) -> Result<String, AllocError> {
     let mut told = format!(in alloc; ": {}\n", unread.message)?;
-    let excerpt = Excerpt {
-        manner: source.manner,
-        width: width_of(&unread.own, unread.other.as_ref()),
-    };
+    let excerpt = Excerpt::new(source.manner, &unread.own, unread.other.as_ref());
     if let Some(other) = &unread.other {
         let shown = Shown::new(line_in(lines, other.line), other, Mark::Other);
         push_note(alloc, &mut told, excerpt, shown)?;
     }
     let shown = Shown::new(line_in(lines, unread.own.line), &unread.own, Mark::Own);
     push_note(alloc, &mut told, excerpt, shown)?;
-    if let Some(form) = unread.form {
-        push_help(alloc, &mut told, excerpt, "form", form)?;
-    }
-    if let Some(mend) = &unread.mend {
-        push_help(alloc, &mut told, excerpt, "mend", mend)?;
-    }
+    push_helps(alloc, &mut told, excerpt, unread)?;
     Ok(told)
+}
+
+// Adds the form that the line has to have, and how to mend it.
+fn push_helps(
+    alloc: Global,
+    told: &mut String,
+    excerpt: Excerpt,
+    unread: &Unread,
+) -> Result<(), AllocError> {
+    if let Some(form) = unread.form {
+        push_help(alloc, told, excerpt, "form", form)?;
+    }
+    match &unread.mend {
+        Some(mend) => push_help(alloc, told, excerpt, "mend", mend),
+        None => Ok(()),
+    }
 }
 
 /// How a part of a line is marked.
@@ -178,24 +186,50 @@ fn push_note(
     excerpt: Excerpt,
     shown: Shown,
 ) -> Result<(), AllocError> {
-    let Excerpt { manner, width } = excerpt;
-    let Shown { line, note, mark } = shown;
-    push_margin(told, width)?;
+    push_margin(told, excerpt.width)?;
     told.push_str("\n")?;
-    push_times(told, ' ', width.saturating_sub(digits(note.line)))?;
-    let number = format!(in alloc; "{} | ", note.line)?;
+    push_line(alloc, told, excerpt, shown)?;
+    push_margin(told, excerpt.width)?;
+    push_label(alloc, told, excerpt, shown)
+}
+
+// Adds a line of the text, behind its number.
+fn push_line(
+    alloc: Global,
+    told: &mut String,
+    excerpt: Excerpt,
+    shown: Shown,
+) -> Result<(), AllocError> {
+    let number = shown.note.line;
+    push_times(told, ' ', excerpt.width.saturating_sub(digits(number)))?;
+    let number = format!(in alloc; "{number} | ")?;
     told.push_str(&number)?;
-    push_shown(told, line)?;
-    told.push_str("\n")?;
-    push_margin(told, width)?;
-    push_times(told, ' ', note.column.saturating_add(1))?;
-    let mut said = String::new(alloc);
-    push_times(&mut said, mark.sign(), note.len.max(1))?;
-    said.push_str(" ")?;
-    said.push_str(&note.label)?;
-    let shown = shown_in(alloc, manner, mark.colour(), &said)?;
-    told.push_str(&shown)?;
+    push_shown(told, shown.line)?;
     told.push_str("\n")
+}
+
+// Adds the signs below a part of a line, and what is said of it.
+fn push_label(
+    alloc: Global,
+    told: &mut String,
+    excerpt: Excerpt,
+    shown: Shown,
+) -> Result<(), AllocError> {
+    let Shown { note, mark, .. } = shown;
+    push_times(told, ' ', note.column.saturating_add(1))?;
+    let label = label_text(alloc, note, mark)?;
+    let label = shown_in(alloc, excerpt.manner, mark.colour(), &label)?;
+    told.push_str(&label)?;
+    told.push_str("\n")
+}
+
+// The signs, and behind them what is said.
+fn label_text(alloc: Global, note: &Note, mark: Mark) -> Result<String, AllocError> {
+    let mut text = String::new(alloc);
+    push_times(&mut text, mark.sign(), note.len.max(1))?;
+    text.push_str(" ")?;
+    text.push_str(&note.label)?;
+    Ok(text)
 }
 
 // Adds the last line: what helps.
