@@ -1,5 +1,6 @@
 //! The views of a dialog by what they stand in, of which a view that is moved must overlap none.
 
+use crate::few::are_few;
 use crate::room::Room;
 use std::alloc::{AllocError, Global};
 use tv_model::{Id, Kind, Node};
@@ -18,11 +19,6 @@ pub struct Kin<'a> {
     is_known: bool,
 }
 
-// The most views of a dialog, and the most dialogs of a description.
-const MOST: usize = 64;
-
-const MOST_DIALOGS: usize = 16;
-
 // Whether two such views in one place are a fault.
 fn exclude(kind: &Kind, other: &Kind) -> bool {
     kind.is_pane() || other.is_pane() || (kind.is_control() && other.is_control())
@@ -33,7 +29,7 @@ impl<'a> Kin<'a> {
     pub fn new(alloc: Global, place: usize, count: usize) -> Kin<'a> {
         Kin {
             members: Vec::new(alloc),
-            is_known: place < MOST_DIALOGS && count <= MOST,
+            is_known: are_few(place, count),
         }
     }
 

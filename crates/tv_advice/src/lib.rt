@@ -9,6 +9,7 @@ mod colour;
 mod complaint;
 mod context;
 mod ends;
+mod few;
 mod fitting;
 mod forms;
 mod heads;

@@ -1,5 +1,6 @@
 //! The names that the views of a dialog give, of which one that isn't there may be a misspelling.
 
+use crate::few::are_few;
 use crate::naming::text_of;
 use crate::nearest::{Nearest, Unknown};
 use std::alloc::{AllocError, Global};
@@ -37,12 +38,6 @@ pub struct ViewNames<'a> {
     names: Vec<Named<'a>>,
 }
 
-// The most views, and the most rules, of a dialog.
-const MOST: usize = 64;
-
-// The most dialogs of a description.
-const MOST_DIALOGS: usize = 16;
-
 impl<'a> ViewNames<'a> {
     /// Collects the names of the dialog at this place among the dialogs. Of what is beyond the limits there are none: so
     /// few names are compared, however long the text is.
@@ -53,18 +48,16 @@ impl<'a> ViewNames<'a> {
     ) -> Result<ViewNames<'a>, AllocError> {
         let mut names = Vec::new(alloc);
         let views = dialog.views.as_slice();
-        let is_within = place < MOST_DIALOGS
-            && views.len() <= MOST
-            && dialog.rules.as_slice().len() <= MOST;
-        if is_within {
-            for view in views {
-                if let Some(name) = view.kind.name() {
-                    let name = text_of(alloc, name.as_slice())?;
-                    names.push(Named {
-                        name,
-                        kind: &view.kind,
-                    })?;
-                }
+        if !are_few(place, views.len()) || !are_few(place, dialog.rules.as_slice().len()) {
+            return Ok(ViewNames { names });
+        }
+        for view in views {
+            if let Some(name) = view.kind.name() {
+                let name = text_of(alloc, name.as_slice())?;
+                names.push(Named {
+                    name,
+                    kind: &view.kind,
+                })?;
             }
         }
         Ok(ViewNames { names })
