@@ -2,7 +2,8 @@ pub mod EntryLemmas
 pub mod FillingLemmas
 pub mod LineLemmas
 pub mod MarkLemmas
-pub mod NumberLemmas
 pub mod ReadLemmas
 pub mod SpelledLemmas
+pub mod StandLemmas
+pub mod ValueLemmas
 pub mod Examples

@@ -1,5 +1,5 @@
 -- A description whose fields begin with answers.
-use Rattle.std.specs.Prelude.{pos, List, [], ◌∷◌, map, filter, Option, Some, None}
+use Rattle.std.specs.Prelude.{ℕ, pos, List, [], ◌∷◌, map, filter, Option, Some, None}
 use Rattle.std.specs.List.{AllByRecursion, range_with_len}
 use Rattle.tv_model.specs.declared.desc.Desc.{Desc}
 use Rattle.tv_model.specs.declared.desc.Dialog.{Dialog}
@@ -10,7 +10,9 @@ use Rattle.tv_model.specs.declared.record.Value.{Value}
 use Rattle.tv_model.specs.declared.record.Value.TheVariants as values
 use Rattle.tv_model.specs.Log.LogText.{has_bit}
 use Rattle.tv_model.specs.Log.Record.{Entries, value_of}
+use Rattle.tv_words.specs.declared.word.Word.TheVariants.{Quoted}
 use Rattle.tv_words.specs.Fields.{IsNumber}
+use Rattle.tv_words.specs.Words.{SpellsWords}
 use Rattle.tv_answers.specs.declared.answers.Answers.{Answers}
 use Rattle.tv_answers.specs.declared.answers.Answer.{Answer}
 
@@ -50,11 +52,18 @@ filled d a = record d { dialogs = filled_dialogs d.dialogs a.dialogs }
 
 -- ---- what can be spelled
 
--- a value that a description can begin with: an item has a number of it
-abbrev pub HasNumber : Value → Type 0
-HasNumber (values.Item item) = IsNumber (pos item)
-HasNumber value = Unit {0}
+-- the text can stand between quotes: some line spells it
+abbrev pub IsSpelledText : List ℕ → Type 0
+IsSpelledText text = (line : List ℕ) × SpellsWords line (Quoted text ∷ [])
 
--- the items of all answers have such
-abbrev pub HaveNumbers : Answers → Type 0
-HaveNumbers a = AllByRecursion (λ answer. AllByRecursion (λ entry. HasNumber entry.value) answer.entries) a.dialogs
+-- a value that a field can be declared to begin with: a text that can stand between quotes, or an item that
+-- has a number
+abbrev pub IsSpelledValue : Value → Type 0
+IsSpelledValue (values.Text text) = IsSpelledText text
+IsSpelledValue (values.Marks marks) = Unit {0}
+IsSpelledValue (values.Item item) = IsNumber (pos item)
+
+-- all answers are such values
+abbrev pub HaveSpelledValues : Answers → Type 0
+HaveSpelledValues a =
+    AllByRecursion (λ answer. AllByRecursion (λ entry. IsSpelledValue entry.value) answer.entries) a.dialogs

@@ -2,8 +2,8 @@
 
 ghost use Rattle.std.specs.Prelude.{◌≡◌, ◌≤◌, ◌++◌, ◌∷◌, [], map, filter, pos, IfOk, OnOk};
 ghost use Rattle.std.specs.List.{range_with_len};
-ghost use Rattle.tv_answers.specs.Filling.{HaveNumbers, filled, filled_dialogs, with_start, with_value_of, with_values_of};
-ghost use Rattle.tv_declarations.specs.Spelling.{IsDescription};
+ghost use Rattle.tv_answers.specs.Filling.{HaveSpelledValues, filled, filled_dialogs, with_start, with_value_of, with_values_of};
+ghost use Rattle.tv_lang.specs.CanonicalDescription.{CanBeSpelled};
 ghost use Rattle.tv_model.specs.Log.LogText.{has_bit};
 
 use crate::answers::{Answer, Answers};
@@ -168,10 +168,10 @@ fn begun(alloc: Global, desc: Desc, answers: &[Answer]) -> Result<Desc, AllocErr
 }
 
 /// Returns the description with the answered fields beginning with their answers. The other fields begin as they are
-/// declared. With answers from `read_answers`, what some text spells stays spelled.
+/// declared. Where some text spells the description, one spells the filled one, with answers from `read_answers`.
 pub fn filled(alloc: Global, desc: Desc, answers: &Answers) -> Result<Desc, AllocError>
     ensures filled { IfOk result (λ begun. begun ≡ filled desc answers.now) }
-    ensures spelled { IfOk result (λ begun. HaveNumbers answers.now → IsDescription desc → IsDescription begun) }
+    ensures spelled { IfOk result (λ begun. HaveSpelledValues answers.now → CanBeSpelled desc → CanBeSpelled begun) }
 {
     begun(alloc, desc, answers.dialogs.as_slice())
 }

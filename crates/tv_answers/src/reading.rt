@@ -1,7 +1,7 @@
 //! Answers, read from a log.
 
 ghost use Rattle.std.specs.Prelude.{◌≡◌, ◌↔◌, ◌<◌, ◌≤◌, IfErr, IfOk, Err, Some, length};
-ghost use Rattle.tv_answers.specs.Filling.{HaveNumbers};
+ghost use Rattle.tv_answers.specs.Filling.{HaveSpelledValues};
 ghost use Rattle.tv_answers.specs.ReadLogs.{RefusesAnswers, answers_in, line_answered};
 ghost use Rattle.tv_answers.specs.Outcomes.{RefusesLine, StopsAt, Value, log_outcome};
 
@@ -43,7 +43,7 @@ const LONGEST: usize = 1_048_576;
 /// answers' misfits.
 pub fn read_answers(alloc: Global, desc: &Desc, text: &[u8]) -> Result<Answers, AnswersFault>
     ensures read { IfOk result (λ answers. answers_in desc.now text.now ≡ Some answers) }
-    ensures numbers { IfOk result HaveNumbers }
+    ensures spelled { IfOk result HaveSpelledValues }
     ensures fault { IfErr result (RefusesAnswers desc.now text.now) }
     ensures too_long { (result ≡ Err AnswersFault.TooLong) ↔ (1048576 < length text.now) }
 {

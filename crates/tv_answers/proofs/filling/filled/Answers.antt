@@ -1,7 +1,7 @@
 use Rattle.std.proofs.Common.{◌≡◌, ◌∙◌, sym, ap, subst}
 use Rattle.std.proofs.lemmas.Result.{IfOk-weaker}
-use Rattle.tv_declarations.specs.Spelling.{IsDescription}
-use Rattle.tv_answers.specs.Filling.{HaveNumbers, filled, filled_dialogs}
+use Rattle.tv_lang.specs.CanonicalDescription.{CanBeSpelled}
+use Rattle.tv_answers.specs.Filling.{HaveSpelledValues, filled, filled_dialogs}
 use Rattle.tv_answers.proofs.SpelledLemmas.{spelled_filled}
 use Rattle.tv_answers.proofs.filling.filled.Goals as goal
 
@@ -10,8 +10,8 @@ returns-clause-spelled c =
     let d = c.args.desc in
     let a = c.args.answers.now in
     IfOk-weaker c.begun.result (λ begun. begun ≡ record d { dialogs = filled_dialogs d.dialogs c.as_slice.result.now })
-    (λ begun. HaveNumbers a → IsDescription d → IsDescription begun)
-    (λ begun e has is.
+    (λ begun. HaveSpelledValues a → CanBeSpelled d → CanBeSpelled begun)
+    (λ begun e has can.
     let same : begun ≡ filled d a = e ∙ ap (λ answers. record d { dialogs = filled_dialogs d.dialogs answers }) c.as_slice.ensures in
-    subst IsDescription (sym same) (spelled_filled d a has is))
+    subst CanBeSpelled (sym same) (spelled_filled d a has can))
     c.begun.ensures
