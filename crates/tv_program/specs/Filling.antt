@@ -1,5 +1,5 @@
 -- What is written where a description is filled with answers.
-use Rattle.std.specs.Prelude.{◌≡◌, ◌≢◌, ℕ, List, ◌++◌, flat_map, Some, Result, Ok, Err, codes}
+use Rattle.std.specs.Prelude.{◌≡◌, ◌≢◌, ℕ, ◌<◌, List, ◌++◌, flat_map, length, Some, Result, Ok, Err, codes}
 use Rattle.tv_answers.specs.declared.answers.Answers.{Answers}
 use Rattle.tv_answers.specs.declared.misfit.Misfit.{Misfit}
 use Rattle.tv_answers.specs.declared.reading.AnswersFault.{AnswersFault}
@@ -10,6 +10,8 @@ use Rattle.tv_answers.specs.ReadLogs.{RefusesAnswers, answers_in}
 use Rattle.tv_check.specs.Refusals.{HasFaults}
 use Rattle.tv_declarations.specs.CanonicalDescription.{description_text}
 use Rattle.tv_io.specs.Writer.{Seen, Takes, Cuts}
+use Rattle.tv_lang.specs.declared.description.LangFault.{LangFault}
+use Rattle.tv_lang.specs.declared.description.LangFault.TheVariants as lang
 use Rattle.tv_lang.specs.Faults.{Spells}
 use Rattle.tv_model.specs.declared.desc.Desc.{Desc}
 use Rattle.tv_model.specs.Log.LogText.{line_of}
@@ -50,20 +52,24 @@ pub record Written : Type 0 where
   pub out : Seen
   pub told : Seen
 
--- With Ok the text of the filled description was written, which spells a sound description, and what doesn't
--- fit was told. Nothing is written or told before the answers are read and that text has passed. A message
--- that can't be written changes nothing else.
+-- the text is longer than that of a description may be
+abbrev pub IsTooLong : List ℕ → LangFault → Type 0
+IsTooLong text fault = (fault ≡ lang.TooLong) × (262144 < length text)
+
+-- With Ok the text of the filled description was written, which spells that description, a sound one, and
+-- what doesn't fit was told. Nothing is written or told before the answers are read and the filled description
+-- has passed. A message that can't be written changes nothing else.
 abbrev pub FillsTo : {T : Type 0} → List ℕ → Desc → List ℕ → Written → Written → Result T FillFault → Type 0
 FillsTo name d written old new (Ok _) =
-    (a : Answers) × IsAnswered d written a × ((e : Desc) × IsSoundText (filled_text d a) e)
+    (a : Answers) × IsAnswered d written a × IsSoundText (filled_text d a) (filled d a)
     × Takes old.out new.out (filled_text d a) × IsOffered old.told new.told (misfit_messages name a.misfits)
 FillsTo name d written old new (Err fills.NoMemory) = new ≡ old
 FillsTo name d written old new (Err (fills.Answers fault)) = IsNoLog d written fault × (new ≡ old)
 FillsTo name d written old new (Err (fills.Lang fault)) =
-    (a : Answers) × IsAnswered d written a × IsNoDescription (filled_text d a) fault × (new ≡ old)
+    (a : Answers) × IsAnswered d written a × IsTooLong (filled_text d a) fault × (new ≡ old)
 FillsTo name d written old new (Err (fills.Faults list)) =
     (a : Answers) × IsAnswered d written a
-    × ((e : Desc) × Spells (filled_text d a) e × HasFaults e list) × (new ≡ old)
+    × Spells (filled_text d a) (filled d a) × HasFaults (filled d a) list × (new ≡ old)
 FillsTo name d written old new (Err fills.Write) =
-    (a : Answers) × IsAnswered d written a × ((e : Desc) × IsSoundText (filled_text d a) e)
+    (a : Answers) × IsAnswered d written a × IsSoundText (filled_text d a) (filled d a)
     × Cuts old.out new.out (filled_text d a) × IsOffered old.told new.told (misfit_messages name a.misfits)

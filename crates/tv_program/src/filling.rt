@@ -4,6 +4,7 @@ ghost use Rattle.std.specs.Prelude.{◌≡◌, IfErr, IfOk};
 ghost use Rattle.tv_answers.specs.declared.misfit.MisfitKind.TheVariants.{NoDialog, NoEnd, NoField, NoValue};
 ghost use Rattle.tv_answers.specs.Misfits.{kind_text, misfit_text};
 ghost use Rattle.tv_io.specs.Pen.{Puts};
+ghost use Rattle.tv_lang.specs.CanonicalDescription.{CanBeSpelled};
 ghost use Rattle.tv_model.specs.Log.LogText.{end_word};
 ghost use Rattle.tv_program.specs.Filling.{FillsTo, RefusesSound, misfit_message, misfit_messages};
 ghost use Rattle.tv_program.specs.Reading.{IsSoundText};
@@ -45,7 +46,7 @@ pub fn fill_text<W: Writer, E: Writer>(
     out: &mut W,
     told: &mut E,
 ) -> Result<(), FillFault>
-    ensures { FillsTo name.now desc answers.now
+    ensures { CanBeSpelled desc → FillsTo name.now desc answers.now
         (record { out = W.seen out.old; told = E.seen told.old })
         (record { out = W.seen out.new; told = E.seen told.new }) result }
 {

@@ -29,7 +29,7 @@ returns-in-Ok g c =
     done-OnFiles longest_log IsUnsound SpellsSome (FillsAs c.args.paths.file.now c.args.paths.answers.now old new end)
     (g.F.FileStore.known c.args.files.now) (g.F.FileStore.known c.sound.new.files) (g.F.FileStore.known c.read_up_to.new.files) c.args.paths.file.now c.args.paths.answers.now old new end
     first.text c.in_ok-text.text.items first.gives (c.in_ok-desc.desc, first.follows_text) c.in_ok-text.ensures
-    (c.in_ok-desc.desc, Ok tt, first.follows_text, rw c.as_slice.ensures.value at c.in-Ok.ensures, refl)
+    (c.in_ok-desc.desc, Ok tt, first.follows_text, rw c.as_slice.ensures.value at (c.in-Ok.ensures (first.text, first.follows_text.spelled.lines)), refl)
 
 pub returns : goal.returns
 returns g c =
@@ -43,6 +43,6 @@ returns g c =
       c.in_ok-desc.desc,
       Err c.in-Err.fault,
       first.follows_text,
-      subst (λ written. FillsTo {T = Unit {0}} c.args.paths.answers.now c.in_ok-desc.desc written old new (Err c.in-Err.fault)) c.as_slice.ensures.value c.in-Err.ensures,
+      subst (λ written. FillsTo {T = Unit {0}} c.args.paths.answers.now c.in_ok-desc.desc written old new (Err c.in-Err.fault)) c.as_slice.ensures.value (c.in-Err.ensures (first.text, first.follows_text.spelled.lines)),
       rw c.from.ensures at c.new.ensures,
     )
