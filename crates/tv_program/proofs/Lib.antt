@@ -1,3 +1,5 @@
+pub mod AnswerLemmas
+pub mod AnsweredLemmas
 pub mod CheckLemmas
 pub mod FillLemmas
 mod PlayLemmas

@@ -6,6 +6,12 @@ pub mod Conversions
 pub mod FillFaults
 -- What filling a description with answers comes to
 pub mod Filling
+-- Faults of answering handed on
+pub mod AnswerFaults
+-- What giving answered dialogs their ends comes to
+pub mod Answering
+-- Runs that are begun for ends
+pub mod AnswerRuns
 -- What a run of a description and a script comes to
 pub mod Playing
 -- What is read of a description, and why it is refused

@@ -59,8 +59,8 @@ pub fn fill_text<W: Writer, E: Writer>(
     Ok(())
 }
 
-// Tells what doesn't fit.
-fn tell_misfits<E: Writer>(misfits: &[Misfit], name: &str, told: &mut E)
+/// Tells what doesn't fit.
+pub(crate) fn tell_misfits<E: Writer>(misfits: &[Misfit], name: &str, told: &mut E)
     ensures { IsOffered (E.seen told.old) (E.seen told.new) (misfit_messages name.now misfits.now) }
 {
     let mut pen = Pen {

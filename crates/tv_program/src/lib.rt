@@ -3,6 +3,8 @@
 
 mod accept_fault;
 mod album;
+mod answer_fault;
+mod answering;
 mod check_fault;
 mod checking;
 mod drawing;
@@ -22,6 +24,8 @@ mod trouble;
 
 pub use accept_fault::AcceptFault;
 pub use album::{Album, AlbumFault};
+pub use answer_fault::{AnswerFault, Ending};
+pub use answering::answer_text;
 pub use check_fault::CheckFault;
 pub use checking::{accept_files, accept_text, check};
 pub use drawing::{draw, draw_shots};

@@ -4,6 +4,7 @@
 //! refused, the call is to say so, and what it took comes back and serves a second call: then the test fails with `no memory`,
 //! and with something else where the call does otherwise. Where an allocation of a fixture is refused, the call isn't made.
 
+mod answering;
 mod answers;
 mod certificates;
 mod controls;

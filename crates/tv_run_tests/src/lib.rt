@@ -5,6 +5,8 @@
 #[cfg(test)]
 mod allocations;
 #[cfg(test)]
+mod answering;
+#[cfg(test)]
 mod asked;
 #[cfg(test)]
 mod bodies;
