@@ -1,5 +1,5 @@
 -- What the program's end says where less is said of views that are refused.
-use Rattle.std.proofs.Common.{ℕ, List, Option, Result, Ok, Err}
+use Rattle.std.proofs.Common.{ℕ, List, Option, Result, Ok, Err, inl, inr}
 use Rattle.tv_io.specs.Reader.{Given}
 use Rattle.tv_io.specs.Writer.{Seen}
 use Rattle.tv_machine.specs.Run.{Session}
@@ -7,6 +7,10 @@ use Rattle.tv_model.specs.declared.desc.Desc.{Desc}
 use Rattle.tv_play.specs.Playing.{Ports}
 use Rattle.tv_play.specs.declared.parting.Parting.{Parting}
 use Rattle.tv_program.specs.Albums.{Hung}
+use Rattle.tv_program.specs.Answering.{AnswersTo, IsUnrun, RefusesRun}
+use Rattle.tv_program.specs.declared.answer_fault.AnswerFault.{AnswerFault}
+use Rattle.tv_program.specs.declared.answer_fault.AnswerFault.TheVariants as answered
+use Rattle.tv_program.specs.Filling.{Written}
 use Rattle.tv_program.specs.Drawing.{PicturesTo}
 use Rattle.tv_program.specs.Drawing.PicturesTo.{unrun, drawn, cut}
 use Rattle.tv_program.specs.Shots.{ShotsTo}
@@ -22,16 +26,18 @@ use Rattle.tv_program.specs.Terminal.PlaysText.{refused as refused_play, unbegun
 use Rattle.tv_files.specs.declared.done.Done.{Done}
 use Rattle.tv_files.specs.declared.no_task.NoTask.{NoTask}
 use Rattle.tv_files.specs.declared.task.Task.{Task}
-use Rattle.tv_files.specs.declared.task.Task.TheVariants.{Check, Accept, Run, Play, Picture, PictureAll, Fill, Explain, ExplainBoth, Version}
+use Rattle.tv_files.specs.declared.task.Task.TheVariants.{Check, Accept, Run, Play, Picture, PictureAll, Fill, Answer, Explain, ExplainBoth, Version}
 use Rattle.tv_files.specs.Ends.{End}
 use Rattle.tv_files.specs.EndsWith.{EndsWith}
 use Rattle.tv_files.specs.Files.{Known}
 use Rattle.tv_files.specs.Performing.{PerformsTask}
 use Rattle.tv_files.specs.Picturing.{PicturesAll, PicturesAs, PicturesFiles, ShotsAs}
+use Rattle.tv_files.specs.Filling.{AnswersFiles}
 use Rattle.tv_files.specs.Tasks.{OnStream, PlaysFile, RunsAs, RunsFiles}
+use Rattle.tv_files.specs.Tasks.OnFiles.{first as first_file, unread as unread_beside, done as done_beside}
 use Rattle.tv_files.specs.Tasks.OnStream.{unopened, beside, unread, done}
 use Rattle.tv_files.specs.Tasks.PlaysFile.{unread as unread_file, played as played_file}
-use Rattle.tv_files.specs.World.{KnownWorld, ports_of}
+use Rattle.tv_files.specs.World.{KnownWorld, ports_of, written_of}
 
 -- what two files come to, where less is said of what follows
 OnStream-weaker : {S : Type 0} (Comes Weaker : (text : List ℕ) (reader left : Given) → Type 0) → ((text : List ℕ) (reader left : Given) → Comes text reader left → Weaker text reader left) → (files after : Known) (file script : List ℕ) (old new : S) (end : End) → OnStream Comes files after file script old new end → OnStream Weaker files after file script old new end
@@ -103,6 +109,39 @@ module _ (P Q : Desc → Type 0) (weaker : (text : List ℕ) (d : Desc) → IsSo
   PlaysFile-weaker files after file old new how end (played_file text gives came) =
       played_file text gives (came.0, PlaysText-weaker text old new came.0 came.1, came.2, came.3)
 
+  -- why a text isn't run
+  RefusesRun-weaker : (text : List ℕ) (fault : RunFault) → RefusesRun P text fault → RefusesRun Q text fault
+  RefusesRun-weaker text fault (inl undescribed) = inl undescribed
+  RefusesRun-weaker text fault (inr was) = inr (was.0, was.1, IsNoStart-weaker text was.0 fault was.1 was.2)
+
+  -- why no runs were begun
+  IsUnrun-weaker : (d : Desc) (written : List ℕ) (fault : RunFault) → IsUnrun P d written fault → IsUnrun Q d written fault
+  IsUnrun-weaker d written runs.NoMemory was = tt
+  IsUnrun-weaker d written runs.View was = (was.0, was.1, (was.2.0, was.2.1, RefusesRun-weaker _ runs.View was.2.2))
+  IsUnrun-weaker d written (runs.Lang fault) was = (was.0, was.1, (was.2.0, was.2.1, RefusesRun-weaker _ (runs.Lang fault) was.2.2))
+  IsUnrun-weaker d written (runs.Faults list) was = (was.0, was.1, (was.2.0, was.2.1, RefusesRun-weaker _ (runs.Faults list) was.2.2))
+  IsUnrun-weaker d written (runs.Script fault) was = (was.0, was.1, (was.2.0, was.2.1, RefusesRun-weaker _ (runs.Script fault) was.2.2))
+  IsUnrun-weaker d written runs.Read was = (was.0, was.1, (was.2.0, was.2.1, RefusesRun-weaker _ runs.Read was.2.2))
+  IsUnrun-weaker d written runs.Write was = (was.0, was.1, (was.2.0, was.2.1, RefusesRun-weaker _ runs.Write was.2.2))
+
+  -- what giving dialogs their ends comes to
+  AnswersTo-weaker : (name : List ℕ) (d : Desc) (written : List ℕ) (old new : Written) (r : Result (Unit {0}) AnswerFault) → AnswersTo P name d written old new r → AnswersTo Q name d written old new r
+  AnswersTo-weaker name d written old new (Ok x) was = was
+  AnswersTo-weaker name d written old new (Err (answered.Run fault)) was = (IsUnrun-weaker d written fault was.0, was.1)
+  AnswersTo-weaker name d written old new (Err (answered.Answers fault)) was = was
+  AnswersTo-weaker name d written old new (Err answered.Misfits) was = was
+  AnswersTo-weaker name d written old new (Err answered.NoAnswers) was = was
+  AnswersTo-weaker name d written old new (Err (answered.Disabled ending)) was = was
+  AnswersTo-weaker name d written old new (Err (answered.Refused ending)) was = was
+  AnswersTo-weaker name d written old new (Err answered.Write) was = was
+
+  -- the same of two files
+  AnswersFiles-weaker : (files after : Known) (file answers : List ℕ) (old new : Written) (end : End) → AnswersFiles P files after file answers old new end → AnswersFiles Q files after file answers old new end
+  AnswersFiles-weaker files after file answers old new end (first_file ends same) = first_file ends same
+  AnswersFiles-weaker files after file answers old new end (unread_beside text is passed why same) = unread_beside text is passed why same
+  AnswersFiles-weaker files after file answers old new end (done_beside text written is passed gives was) =
+      done_beside text written is passed gives (was.0, was.1, was.2, AnswersTo-weaker answers was.0 written old new was.1 was.3, was.4)
+
   -- what a task comes to
   Performs-weaker : (task : Task) (old new : KnownWorld) (how : Done) (end : End) → PerformsTask P task old new how end → PerformsTask Q task old new how end
   Performs-weaker (Check file) old new how end came = came
@@ -116,6 +155,8 @@ module _ (P Q : Desc → Type 0) (weaker : (text : List ℕ) (d : Desc) → IsSo
   Performs-weaker (PictureAll file script) old new how end came =
       (came.0, came.1, PicturesAll-weaker old.files new.files file.now script.now old.album new.album end came.2)
   Performs-weaker (Fill file answers) old new how end came = came
+  Performs-weaker (Answer file answers) old new how end came =
+      (came.0, came.1, AnswersFiles-weaker old.files new.files file.now answers.now (written_of old) (written_of new) end came.2)
   Performs-weaker (Explain file manner) old new how end came = came
   Performs-weaker (ExplainBoth file other manner) old new how end came = came
   Performs-weaker Version old new how end came = came

@@ -10,6 +10,7 @@ use Rattle.tv_play.specs.declared.parting.Parting.{Parting}
 use Rattle.tv_play.specs.declared.parting.Parting.TheVariants as partings
 use Rattle.tv_program.specs.declared.trouble.Trouble.{Trouble}
 use Rattle.tv_program.specs.declared.trouble.Trouble.TheVariants.{NoMemory, Read, Cert, Answers}
+use Rattle.tv_program.specs.declared.trouble.Trouble.TheVariants.{Misfits, NoAnswers, Disabled, Unended}
 use Rattle.tv_program.specs.declared.run_fault.RunFault.{RunFault}
 use Rattle.tv_program.specs.declared.run_fault.RunFault.TheVariants as runs
 use Rattle.tv_program.specs.Conversions.{run_told}
@@ -57,6 +58,10 @@ done_of_play (Err fault) = Whole
 abbrev pub path_of : Trouble → (file beside : List ℕ) → List ℕ
 path_of (Cert fault) file beside = beside
 path_of (Answers fault) file beside = beside
+path_of Misfits file beside = beside
+path_of NoAnswers file beside = beside
+path_of (Disabled ending) file beside = beside
+path_of (Unended ending) file beside = beside
 path_of _ file beside = file
 
 -- the file that a fault of a run is in: the description, or the script where that is at fault or can't be

@@ -1,7 +1,9 @@
--- What filling a description with answers comes to.
+-- What filling a description with answers, and giving answered dialogs their ends, come to.
 use Rattle.std.specs.Prelude.{◌≡◌, ℕ, List, Result}
 use Rattle.tv_model.specs.declared.desc.Desc.{Desc}
-use Rattle.tv_program.specs.Conversions.{fill_told}
+use Rattle.tv_program.specs.Answering.{AnswersTo}
+use Rattle.tv_program.specs.Conversions.{answer_told, fill_told}
+use Rattle.tv_program.specs.declared.answer_fault.AnswerFault.{AnswerFault}
 use Rattle.tv_program.specs.declared.fill_fault.FillFault.{FillFault}
 use Rattle.tv_program.specs.declared.trouble.Trouble.{Trouble}
 use Rattle.tv_program.specs.Filling.{FillsTo, RefusesSound, Written}
@@ -31,3 +33,18 @@ abbrev pub FillsFiles : (files after : Known) → (file answers : List ℕ) → 
 FillsFiles files after file answers old new end =
     OnFiles longest_log IsUnsound SpellsSome (FillsAs file answers old new end) files after file answers old
     new end
+
+-- ---- ends
+
+-- what `answer_text` answers about them; the views may be refused only where they are mismade
+abbrev pub AnswersAs : (Mismade : Desc → Type 0) → (file answers : List ℕ) → (old new : Written) → End
+    → (text written : List ℕ) → Type 0
+AnswersAs Mismade file answers old new end text written =
+    (d : Desc) × (r : Result (Unit {0}) AnswerFault) × IsSoundAs d text
+    × AnswersTo Mismade answers d written old new r × (end ≡ end_as answer_told file answers r)
+
+abbrev pub AnswersFiles : (Mismade : Desc → Type 0) → (files after : Known) → (file answers : List ℕ)
+    → (old new : Written) → End → Type 0
+AnswersFiles Mismade files after file answers old new end =
+    OnFiles longest_log IsUnsound SpellsSome (AnswersAs Mismade file answers old new end) files after file
+    answers old new end

@@ -4,7 +4,7 @@ pub mod EndsWith
 pub mod Ends
 -- What explaining the faults of a file comes to
 pub mod Explaining
--- What filling a description with answers comes to
+-- What filling a description with answers, and giving answered dialogs their ends, come to
 pub mod Filling
 -- What is known of files, and what opening one comes to
 pub mod Files

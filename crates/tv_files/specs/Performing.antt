@@ -5,10 +5,10 @@ use Rattle.tv_files.specs.declared.done.Done.{Done}
 use Rattle.tv_files.specs.declared.done.Done.TheVariants.{Whole}
 use Rattle.tv_files.specs.declared.task.Task.{Task}
 use Rattle.tv_files.specs.declared.task.Task.TheVariants.{Check, Accept, Run, Play, Picture, PictureAll}
-use Rattle.tv_files.specs.declared.task.Task.TheVariants.{Fill, Explain, ExplainBoth, Version}
+use Rattle.tv_files.specs.declared.task.Task.TheVariants.{Fill, Answer, Explain, ExplainBoth, Version}
 use Rattle.tv_files.specs.Ends.{End}
 use Rattle.tv_files.specs.Explaining.{ExplainsFile, ExplainsFiles}
-use Rattle.tv_files.specs.Filling.{FillsFiles}
+use Rattle.tv_files.specs.Filling.{AnswersFiles, FillsFiles}
 use Rattle.tv_files.specs.Picturing.{PicturesAll, PicturesFiles}
 use Rattle.tv_files.specs.Tasks.{AcceptsFiles, ChecksFile, PlaysFile, RunsFiles, TellsVersion}
 use Rattle.tv_files.specs.World.{KnownWorld, ports_of, written_of}
@@ -23,6 +23,10 @@ abbrev pub PlaysIn : (Mismade : Desc → Type 0) → (file : List ℕ) → (old 
 PlaysIn Mismade file old new how end =
     (new.album ≡ old.album)
     × PlaysFile Mismade old.files new.files file (ports_of old) (ports_of new) how end
+
+-- both streams are written, nothing is heard, and no picture is drawn
+abbrev pub IsUnplayed : (old new : KnownWorld) → Type 0
+IsUnplayed old new = new ≡ record old { files = new.files; out = new.out; err = new.err }
 
 -- a task, by what is asked for
 abbrev pub PerformsTask : (Mismade : Desc → Type 0) → Task → (old new : KnownWorld) → Done → End → Type 0
@@ -42,8 +46,11 @@ PerformsTask Mismade (PictureAll file script) old new how end =
     (new ≡ record old { files = new.files; album = new.album }) × (how ≡ Whole)
     × PicturesAll Mismade old.files new.files file.now script.now old.album new.album end
 PerformsTask Mismade (Fill file answers) old new how end =
-    (new ≡ record old { files = new.files; out = new.out; err = new.err }) × (how ≡ Whole)
+    IsUnplayed old new × (how ≡ Whole)
     × FillsFiles old.files new.files file.now answers.now (written_of old) (written_of new) end
+PerformsTask Mismade (Answer file answers) old new how end =
+    IsUnplayed old new × (how ≡ Whole)
+    × AnswersFiles Mismade old.files new.files file.now answers.now (written_of old) (written_of new) end
 PerformsTask Mismade (Explain file manner) old new how end =
     IsQuiet old new × ExplainsFile manner old.files new.files file.now old.out new.out how end
 PerformsTask Mismade (ExplainBoth file beside manner) old new how end =

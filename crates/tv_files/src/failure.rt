@@ -23,7 +23,12 @@ impl<'a> Failure<'a> {
         ensures { end_of_failure result ≡ faulted fault (path_of fault file.now beside.now) }
     {
         let path = match fault {
-            Trouble::Cert(_) | Trouble::Answers(_) => beside,
+            Trouble::Cert(_)
+            | Trouble::Answers(_)
+            | Trouble::Misfits
+            | Trouble::NoAnswers
+            | Trouble::Disabled(_)
+            | Trouble::Unended(_) => beside,
             _ => file,
         };
         Failure::Fault { fault, path }

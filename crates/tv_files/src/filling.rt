@@ -15,7 +15,7 @@ use tv_model::Desc;
 use tv_program::{Trouble, fill_text, read_sound};
 
 /// The most bytes of answers.
-const LONGEST_LOG: usize = 1_048_576;
+pub(crate) const LONGEST_LOG: usize = 1_048_576;
 
 /// Writes the canonical text of a file's description, its fields beginning with what a file's log answers. What doesn't fit
 /// the description is told on `err`, under the path of the log, and the fields stay as they are declared.
@@ -41,7 +41,11 @@ pub fn fill_file<'a, F: FileStore, W: Writer, E: Writer>(
 }
 
 // Reads the description of a file, where it has no faults.
-fn sound<'a, F: FileStore>(files: &mut F, alloc: Global, file: &'a str) -> Result<Desc, Failure<'a>>
+pub(crate) fn sound<'a, F: FileStore>(
+    files: &mut F,
+    alloc: Global,
+    file: &'a str,
+) -> Result<Desc, Failure<'a>>
     ensures { MatchResult result
         (λ desc. HasRead (IsSoundAs desc) (F.known files.old) (F.known files.new) file.now)
         (λ failure. EndsFirst IsUnsound (F.known files.old) (F.known files.new) file.now (end_of_failure failure)) }

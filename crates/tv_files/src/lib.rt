@@ -1,6 +1,7 @@
 //! What the program does with files and streams, from what it is asked for to its status.
 #![tactic(auto)]
 
+mod answering;
 mod done;
 mod explaining;
 mod failure;
@@ -19,6 +20,7 @@ mod terminal_input;
 mod timed_read;
 mod world;
 
+pub use answering::answer_file;
 pub use done::Done;
 pub use explaining::{explain_file, explain_files};
 pub use failure::Failure;

@@ -38,6 +38,11 @@ pub enum Task<'a> {
         file: &'a str,
         answers: &'a str,
     },
+    /// The dialogs of a description, each given the end that a log answers.
+    Answer {
+        file: &'a str,
+        answers: &'a str,
+    },
     /// What there is to tell of the faults of a description, or of the lines that can't be read.
     Explain {
         file: &'a str,

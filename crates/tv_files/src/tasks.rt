@@ -11,6 +11,7 @@ ghost use Rattle.tv_files.specs.Tasks.{AcceptsFiles, ChecksFile, EndsFirst, Give
 ghost use Rattle.tv_files.specs.Tasks.{IsUnopened, IsUnread, IsUnspelled, RunsFiles, TellsVersion};
 ghost use Rattle.tv_files.specs.World.{known_world};
 
+use crate::answering::answer_file;
 use crate::explaining::{explain_file, explain_files};
 use crate::failure::Failure;
 use crate::file_store::FileStore;
@@ -38,7 +39,7 @@ const VERSION: &str = "tvdlg 1.0.0\n";
 
 /// Does what is asked for, and writes its result to the world's `out`.
 ///
-/// `views` makes the views of a description that is run, drawn or played; no other task calls it. The world's `album` takes the
+/// `views` makes the views of a description that is run, drawn, played or answered; no other task calls it. The world's `album` takes the
 /// pictures of a task that draws more than one. Its `pieces` and `err` are those of a description that is played: the keys and the
 /// screen.
 pub fn perform<
@@ -84,6 +85,12 @@ pub fn perform<
             let out = &mut world.out;
             let err = &mut world.err;
             whole(fill_file(&mut world.files, alloc, paths, out, err))
+        }
+        Task::Answer { file, answers } => {
+            let paths = Answered { file, answers };
+            let out = &mut world.out;
+            let err = &mut world.err;
+            whole(answer_file(&mut world.files, alloc, paths, views, out, err))
         }
         Task::Explain { file, manner } => {
             let inquiry = Inquiry { file, manner };

@@ -61,6 +61,19 @@ standard error, and that field begins as it is declared.
 
 What is printed is a description: tvdlg fill FILE ANSWERS >FILLED.tvd.";
 
+/// What `answer` does.
+const ENDS: &str = "\
+Gives answered dialogs their ends without a user, and prints what happens
+
+ANSWERS is a log or lines of one, as `fill` takes it. Each dialog that it answers is
+opened with these answers in its fields, and given its `end` command as if a user
+had chosen it. Dialogs come in the order of the description. What is printed is the
+log of that, as `run` prints it, and so answers again.
+
+Nothing is done, and the status is 1, where something doesn't fit the description or
+nothing is answered. A dialog that doesn't end, because a field refuses or its rules
+disable the end, is told of with status 1; those before it were ended.";
+
 /// What `explain` prints.
 const EXPLANATIONS: &str = "\
 Tells of each fault of a description where it is, why it is one and how to mend it
@@ -179,11 +192,25 @@ fn fill<'a>(alloc: Global) -> Result<Command<'a>, AllocError> {
         "Prints a description whose fields begin with answers",
     )?
     .long_about(ANSWERS)
-    .arg(path(
+    .arg(log(alloc))
+}
+
+fn answer<'a>(alloc: Global) -> Result<Command<'a>, AllocError> {
+    subcommand(
+        alloc,
+        "answer",
+        "Gives answered dialogs their ends without a user, and prints what happens",
+    )?
+    .long_about(ENDS)
+    .arg(log(alloc))
+}
+
+fn log<'a>(alloc: Global) -> Arg<'a> {
+    path(
         alloc,
         "ANSWERS",
         "A log, or lines of one, that answers dialogs of the description",
-    ))
+    )
 }
 
 fn explain<'a>(alloc: Global) -> Result<Command<'a>, AllocError> {
@@ -225,6 +252,7 @@ fn command<'a>(alloc: Global) -> Result<Command<'a>, AllocError> {
         .subcommand(play(alloc)?)?
         .subcommand(picture(alloc)?)?
         .subcommand(fill(alloc)?)?
+        .subcommand(answer(alloc)?)?
         .subcommand(explain(alloc)?)
 }
 
@@ -272,6 +300,10 @@ fn named_task<'a>(name: &str, found: &ArgMatches<'a>) -> Option<Task<'a>> {
         "play" => Some(Task::Play { file }),
         "picture" => Some(drawing(file, found.get_str("SCRIPT")?, found)),
         "fill" => Some(Task::Fill {
+            file,
+            answers: found.get_str("ANSWERS")?,
+        }),
+        "answer" => Some(Task::Answer {
             file,
             answers: found.get_str("ANSWERS")?,
         }),

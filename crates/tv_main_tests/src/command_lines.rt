@@ -46,6 +46,7 @@ fn task_told(alloc: Global, task: Task<'_>) -> Result<String, AllocError> {
         Task::Picture { file, script } => format!(in alloc; "draws {file} after {script}\n"),
         Task::PictureAll { file, script } => format!(in alloc; "draws {file} all along {script}\n"),
         Task::Fill { file, answers } => format!(in alloc; "fills {file} with {answers}\n"),
+        Task::Answer { file, answers } => format!(in alloc; "ends {file} by {answers}\n"),
         Task::Explain { file, manner } => format!(in alloc; "explains {file}: {manner:?}\n"),
         Task::ExplainBoth {
             file,
@@ -72,6 +73,8 @@ tvdlg picture --all a.tvd a.tvs
 => draws a.tvd all along a.tvs
 tvdlg fill a.tvd a.log
 => fills a.tvd with a.log
+tvdlg answer a.tvd a.log
+=> ends a.tvd by a.log
 tvdlg explain a.tvd
 => explains a.tvd: Plain
 tvdlg explain a.tvd --color=always
@@ -114,6 +117,8 @@ tvdlg picture a.tvd
 tvdlg picture --all a.tvd
 => MissingRequiredArgument
 tvdlg fill a.tvd
+=> MissingRequiredArgument
+tvdlg answer a.tvd
 => MissingRequiredArgument
 tvdlg fill a.tvd a.log b.log
 => UnknownArgument

@@ -28,6 +28,7 @@ Commands:
   play     Plays a description in a terminal, and prints what happens
   picture  Performs a script on a description, and prints the screen that it leaves as SVG
   fill     Prints a description whose fields begin with answers
+  answer   Gives answered dialogs their ends without a user, and prints what happens
   explain  Tells of each fault of a description where it is, why it is one and how to mend it
   help     Print this message or the help of the given subcommand(s)
 
@@ -201,6 +202,36 @@ Statuses: 0 done; 1 faults, a refusal or a bad text; 2 usage; 3 a file, a stream
 Help goes to standard error too, with status 2.
 ";
 
+const ANSWER: &str = "\
+Gives answered dialogs their ends without a user, and prints what happens
+
+ANSWERS is a log or lines of one, as `fill` takes it. Each dialog that it answers is
+opened with these answers in its fields, and given its `end` command as if a user
+had chosen it. Dialogs come in the order of the description. What is printed is the
+log of that, as `run` prints it, and so answers again.
+
+Nothing is done, and the status is 1, where something doesn't fit the description or
+nothing is answered. A dialog that doesn't end, because a field refuses or its rules
+disable the end, is told of with status 1; those before it were ended.
+
+Usage: tvdlg answer <FILE> <ANSWERS>
+
+Arguments:
+  <FILE>
+          A description of windows and dialogs
+
+  <ANSWERS>
+          A log, or lines of one, that answers dialogs of the description
+
+Options:
+  -h, --help
+          Print help (see a summary with '-h')
+
+Statuses: 0 done; 1 faults, a refusal or a bad text; 2 usage; 3 a file, a stream or memory failed; \
+4 the user left, or his input ended. Messages go to standard error, all else that is printed to standard output.
+Help goes to standard error too, with status 2.
+";
+
 const EXPLAIN: &str = "\
 Tells of each fault of a description where it is, why it is one and how to mend it
 
@@ -254,6 +285,7 @@ fn whole_help(rt: HostRuntime) -> Result<(), Fail> {
             ("tvdlg play --help", PLAY),
             ("tvdlg picture --help", PICTURE),
             ("tvdlg fill --help", FILL),
+            ("tvdlg answer --help", ANSWER),
             ("tvdlg explain --help", EXPLAIN),
         ],
     )

@@ -14,6 +14,8 @@ use Rattle.tv_play.specs.declared.parting.PlayFault.{PlayFault}
 use Rattle.tv_play.specs.declared.parting.PlayFault.TheVariants as terminals
 use Rattle.tv_program.specs.declared.accept_fault.AcceptFault.{AcceptFault}
 use Rattle.tv_program.specs.declared.accept_fault.AcceptFault.TheVariants as accepts
+use Rattle.tv_program.specs.declared.answer_fault.AnswerFault.{AnswerFault}
+use Rattle.tv_program.specs.declared.answer_fault.AnswerFault.TheVariants as answers
 use Rattle.tv_program.specs.declared.check_fault.CheckFault.{CheckFault}
 use Rattle.tv_program.specs.declared.check_fault.CheckFault.TheVariants as checks
 use Rattle.tv_program.specs.declared.fill_fault.FillFault.{FillFault}
@@ -134,3 +136,13 @@ fill_told (fills.Lang fault) = told.Lang fault
 fill_told (fills.Faults list) = told.Faults list
 fill_told (fills.Answers fault) = told.Answers fault
 fill_told fills.Write = told.Write
+
+-- a fault of answering
+abbrev pub answer_told : AnswerFault → Trouble
+answer_told (answers.Run fault) = run_told fault
+answer_told (answers.Answers fault) = told.Answers fault
+answer_told answers.Misfits = told.Misfits
+answer_told answers.NoAnswers = told.NoAnswers
+answer_told (answers.Disabled ending) = told.Disabled ending
+answer_told (answers.Refused ending) = told.Unended ending
+answer_told answers.Write = told.Write

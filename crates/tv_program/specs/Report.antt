@@ -10,10 +10,11 @@ use Rattle.tv_lang.specs.declared.description.LangFault.{LangFault}
 use Rattle.tv_lang.specs.declared.description.LangFault.TheVariants as lang
 use Rattle.tv_model.specs.declared.fault.Fault.{Fault}
 use Rattle.tv_model.specs.Faults.{fault_number}
-use Rattle.tv_model.specs.Log.LogText.{line_of}
+use Rattle.tv_model.specs.Log.LogText.{bytes_of, end_word, line_of}
+use Rattle.tv_program.specs.declared.answer_fault.Ending.{Ending}
 use Rattle.tv_program.specs.declared.trouble.Trouble.{Trouble}
-use Rattle.tv_program.specs.declared.trouble.Trouble.TheVariants.{NoMemory, Lang, Faults, Script, Answers}
-use Rattle.tv_program.specs.declared.trouble.Trouble.TheVariants.{Write, Read, Cert, Refused, View}
+use Rattle.tv_program.specs.declared.trouble.Trouble.TheVariants.{NoMemory, Lang, Faults, Script, Answers, Misfits}
+use Rattle.tv_program.specs.declared.trouble.Trouble.TheVariants.{NoAnswers, Disabled, Unended, Write, Read, Cert, Refused, View}
 use Rattle.tv_io.specs.Writer.{Seen, Takes, Cuts}
 use Rattle.tv_script.specs.declared.script_text.ScriptFault.{ScriptFault}
 use Rattle.tv_script.specs.declared.script_text.ScriptFault.TheVariants as scripts
@@ -71,6 +72,17 @@ answers_message name answers.NoMemory = line_of (codes "tvdlg: ") (codes "no mem
 answers_message name (answers.Syntax line) = syntax_message name line
 answers_message name answers.TooLong = line_of (codes "tvdlg: ") (name ++ codes ": too long")
 
+-- an end that a dialog isn't given, because its rules disable it, or because it stays open
+abbrev pub disabled_message : List ℕ → Ending → List ℕ
+disabled_message name ending =
+    line_of (codes "tvdlg: ")
+    (name ++ codes ": " ++ end_word ending.command.0 ++ codes " is disabled in " ++ bytes_of ending.dialog)
+
+abbrev pub unended_message : List ℕ → Ending → List ℕ
+unended_message name ending =
+    line_of (codes "tvdlg: ")
+    (name ++ codes ": " ++ bytes_of ending.dialog ++ codes " refuses " ++ end_word ending.command.0)
+
 -- the message on standard error, with the bytes of the file's name
 abbrev pub err_text : List ℕ → Trouble → List ℕ
 err_text name NoMemory = line_of (codes "tvdlg: ") (codes "no memory")
@@ -78,6 +90,10 @@ err_text name (Lang fault) = lang_message name fault
 err_text name (Faults list) = []
 err_text name (Script fault) = script_message name fault
 err_text name (Answers fault) = answers_message name fault
+err_text name Misfits = []
+err_text name NoAnswers = line_of (codes "tvdlg: ") (name ++ codes ": no answers")
+err_text name (Disabled ending) = disabled_message name ending
+err_text name (Unended ending) = unended_message name ending
 err_text name (Cert fault) = cert_message name fault
 err_text name (Refused refusals.NoMemory) = line_of (codes "tvdlg: ") (codes "no memory")
 err_text name (Refused refusal) = []
@@ -112,6 +128,10 @@ status_of (Lang fault) = lang_status fault
 status_of (Faults list) = 1
 status_of (Script fault) = script_status fault
 status_of (Answers fault) = answers_status fault
+status_of Misfits = 1
+status_of NoAnswers = 1
+status_of (Disabled ending) = 1
+status_of (Unended ending) = 1
 status_of (Cert fault) = cert_status fault
 status_of (Refused refusal) = refusal_status refusal
 status_of View = 1

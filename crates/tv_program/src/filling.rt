@@ -141,8 +141,8 @@ fn put_no_value<E: Writer>(pen: &mut Pen<E>, dialog: &Chars, field: &Chars)
     pen.put(b" can't be so");
 }
 
-// The word of a command that ends a dialog.
-fn end_word(command: Command) -> &'static [u8]
+/// The word of a command that ends a dialog.
+pub(crate) fn end_word(command: Command) -> &'static [u8]
     ensures { result.now ≡ end_word command.0 }
 {
     match command {

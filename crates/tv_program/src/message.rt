@@ -3,8 +3,10 @@
 ghost use Rattle.std.specs.Prelude.{◌≡◌, ◌++◌, ◌∷◌, [], codes, flat_map, decimal, encode_utf8};
 ghost use Rattle.tv_model.specs.Log.LogText.{line_of};
 ghost use Rattle.tv_io.specs.Pen.{Puts};
-ghost use Rattle.tv_program.specs.Report.{IsOffered, answers_message, cert_message, fault_line, lang_message, lang_status, line_message, out_text, err_text, refusal_text, script_message, status_of};
+ghost use Rattle.tv_program.specs.Report.{IsOffered, answers_message, cert_message, disabled_message, fault_line, lang_message, lang_status, line_message, out_text, err_text, refusal_text, script_message, status_of, unended_message};
 
+use crate::answer_fault::Ending;
+use crate::filling::end_word;
 use crate::trouble::Trouble;
 use tv_answers::AnswersFault;
 use tv_check::{CertificateFault, Refusal};
@@ -52,6 +54,10 @@ fn status(fault: &Trouble) -> u8
         | Trouble::Faults(_)
         | Trouble::Script(_)
         | Trouble::Answers(_)
+        | Trouble::Misfits
+        | Trouble::NoAnswers
+        | Trouble::Disabled(_)
+        | Trouble::Unended(_)
         | Trouble::Cert(_)
         | Trouble::Refused(_)
         | Trouble::View => 1,
@@ -139,6 +145,10 @@ fn put_message<W: Writer>(pen: &mut Pen<W>, name: &[u8], fault: &Trouble)
         Trouble::Refused(_) => {}
         Trouble::Script(fault) => put_script(pen, name, *fault),
         Trouble::Answers(fault) => put_answers(pen, name, *fault),
+        Trouble::Misfits => {}
+        Trouble::NoAnswers => put_named(pen, name, b": no answers"),
+        Trouble::Disabled(ending) => put_disabled(pen, name, ending),
+        Trouble::Unended(ending) => put_unended(pen, name, ending),
         Trouble::View => put_plain(pen, b"view refused"),
         Trouble::Read => put_named(pen, b"cannot read ", name),
         Trouble::Write => put_plain(pen, b"cannot write"),
@@ -175,6 +185,30 @@ fn put_answers<W: Writer>(pen: &mut Pen<W>, name: &[u8], fault: AnswersFault)
         AnswersFault::Syntax(line) => put_line(pen, name, SYNTAX, line),
         AnswersFault::TooLong => put_named(pen, name, b": too long"),
     }
+}
+
+fn put_disabled<W: Writer>(pen: &mut Pen<W>, name: &[u8], ending: &Ending)
+    ensures { Puts W.seen pen.old pen.new (disabled_message name.now ending.now) }
+{
+    pen.put(b"tvdlg: ");
+    pen.put(name);
+    pen.put(b": ");
+    pen.put(end_word(ending.command));
+    pen.put(b" is disabled in ");
+    pen.put_chars(ending.dialog.as_slice());
+    pen.put(b"\n");
+}
+
+fn put_unended<W: Writer>(pen: &mut Pen<W>, name: &[u8], ending: &Ending)
+    ensures { Puts W.seen pen.old pen.new (unended_message name.now ending.now) }
+{
+    pen.put(b"tvdlg: ");
+    pen.put(name);
+    pen.put(b": ");
+    pen.put_chars(ending.dialog.as_slice());
+    pen.put(b" refuses ");
+    pen.put(end_word(ending.command));
+    pen.put(b"\n");
 }
 
 fn put_cert<W: Writer>(pen: &mut Pen<W>, name: &[u8], fault: CertificateFault)

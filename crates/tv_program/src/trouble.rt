@@ -2,9 +2,10 @@
 
 ghost use Rattle.std.specs.Prelude.{◌≡◌};
 ghost use Rattle.tv_program.specs.declared.trouble.Trouble.TheVariants.{NoMemory};
-ghost use Rattle.tv_program.specs.Conversions.{accept_told, check_told, fill_told, lang_told, run_told};
+ghost use Rattle.tv_program.specs.Conversions.{accept_told, answer_told, check_told, fill_told, lang_told, run_told};
 
 use crate::accept_fault::AcceptFault;
+use crate::answer_fault::{AnswerFault, Ending};
 use crate::check_fault::CheckFault;
 use crate::fill_fault::FillFault;
 use crate::run_fault::RunFault;
@@ -29,6 +30,14 @@ pub enum Trouble {
     Script(ScriptFault),
     /// The answers are not spelled right.
     Answers(AnswersFault),
+    /// Some of the answers don't fit, which was told.
+    Misfits,
+    /// No dialog is answered.
+    NoAnswers,
+    /// An answered dialog has its end disabled.
+    Disabled(Ending),
+    /// An answered dialog refuses its end.
+    Unended(Ending),
     /// The writer failed, or took nothing.
     Write,
     /// A file can't be opened or read.
@@ -113,6 +122,22 @@ impl From<FillFault> for Trouble {
             FillFault::Faults(list) => Trouble::Faults(list),
             FillFault::Answers(unread) => Trouble::Answers(unread),
             FillFault::Write => Trouble::Write,
+        }
+    }
+}
+
+impl From<AnswerFault> for Trouble {
+    ghost from_gives = { λ fault told. told ≡ answer_told fault };
+
+    fn from(fault: AnswerFault) -> Trouble {
+        match fault {
+            AnswerFault::Run(unrun) => Trouble::from(unrun),
+            AnswerFault::Answers(unread) => Trouble::Answers(unread),
+            AnswerFault::Misfits => Trouble::Misfits,
+            AnswerFault::NoAnswers => Trouble::NoAnswers,
+            AnswerFault::Disabled(ending) => Trouble::Disabled(ending),
+            AnswerFault::Refused(ending) => Trouble::Unended(ending),
+            AnswerFault::Write => Trouble::Write,
         }
     }
 }

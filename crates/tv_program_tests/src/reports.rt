@@ -23,7 +23,7 @@ fn expect_report(alloc: Global, fault: &Trouble, message: &str, status: u8) -> R
     Err(Fail::new(format_args!("{fault:?}: status {answer}")))
 }
 
-const ON_TEXTS: [(Trouble, &str); 11] = [
+const ON_TEXTS: [(Trouble, &str); 13] = [
     (
         Trouble::Lang(LangFault::Syntax(2)),
         "tvdlg: NAME: syntax at line 2\n",
@@ -61,6 +61,8 @@ const ON_TEXTS: [(Trouble, &str); 11] = [
         Trouble::Cert(CertificateFault::TooLong),
         "tvdlg: NAME: too long\n",
     ),
+    (Trouble::NoAnswers, "tvdlg: NAME: no answers\n"),
+    (Trouble::Misfits, ""),
     (Trouble::View, "tvdlg: view refused\n"),
 ];
 

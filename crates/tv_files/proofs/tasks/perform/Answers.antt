@@ -22,6 +22,9 @@ returns-in-PictureAll g c = rw c.in-PictureAll.is (refl, c.whole-in-PictureAll.e
 pub returns-in-Fill : goal.returns-in-Fill
 returns-in-Fill g c = rw c.in-Fill.is (refl, c.whole-in-Fill.ensures.done, rw c.whole-in-Fill.ensures.end c.fill_file.ensures)
 
+pub returns-in-Answer : goal.returns-in-Answer
+returns-in-Answer g c = rw c.in-Answer.is (refl, c.whole-in-Answer.ensures.done, rw c.whole-in-Answer.ensures.end c.answer_file.ensures)
+
 pub returns-in-Explain : goal.returns-in-Explain
 returns-in-Explain g c = rw c.in-Explain.is (refl, c.explain_file.ensures)
 
