@@ -30,7 +30,7 @@ end
 fn words(rt: HostRuntime) -> Result<(), Fail> {
     let text = "tvd 1\nscreen 40 12\nmenu \"~F~ile\"\n  item \"\\\"A\\\"\" open\nend\n";
     let wanted =
-        r#"{"file":"form.tvd","line":4,"column":16,"fault":"syntax","length":4,"label":"a command or its number is wanted here","message":"an item needs a COMMAND as its word 3, not open","other":null,"mend":null,"form":"item MARKED COMMAND"}
+        r#"{"file":"form.tvd","line":4,"column":16,"fault":"syntax","length":4,"label":"a command or its number is wanted here","message":"an item needs a COMMAND as its word 3, not open","other":null,"mend":"write quit, menu, close, next, ok, cancel, yes, no or a number","form":"item MARKED COMMAND"}
 "#;
     expect_objects(rt, text, wanted)
 }
@@ -48,7 +48,8 @@ fn tabs(rt: HostRuntime) -> Result<(), Fail> {
 fn quotes(rt: HostRuntime) -> Result<(), Fail> {
     let text = "tvd 1\nscreen 40 12\nmenu \"File\n";
     let wanted =
-        r#"{"file":"form.tvd","line":3,"column":6,"fault":"syntax","length":1,"label":"the quote that ends this text is missing","message":"the words of this line can't be told apart","other":null,"mend":null,"form":null}
+        r#"{"file":"form.tvd","line":3,"column":6,"fault":"syntax","length":1,"label":"the quote that ends this text is missing","message":"the words of this line can't be told apart","other":null,"mend":"write the quote where the text ends","form":null}
+{"file":"form.tvd","line":4,"column":1,"fault":"syntax","length":1,"label":"the text ends here","message":"the text ends too early: the `end` of the menu in line 3 is missing","other":{"line":3,"column":1,"length":10,"label":"this menu is open"},"mend":"write `end` where the menu ends","form":null}
 "#;
     expect_objects(rt, text, wanted)
 }

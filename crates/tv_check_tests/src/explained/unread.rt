@@ -609,6 +609,16 @@ fn carriage_returns(rt: HostRuntime) -> Result<(), Fail> {
 1 | # Menus␍
   |        ^ here
   = mend: save the file with Unix line ends
+form.tvd:2:6: syntax: a carriage return (U+000D) can't stand in a line
+  |
+2 | tvd 1␍
+  |      ^ here
+  = mend: save the file with Unix line ends
+form.tvd:3:13: syntax: a carriage return (U+000D) can't stand in a line
+  |
+3 | screen 40 12␍
+  |             ^ here
+  = mend: save the file with Unix line ends
 "#;
     expect_told(rt, text, wanted)
 }
@@ -633,6 +643,14 @@ fn other_encodings(rt: HostRuntime) -> Result<(), Fail> {
 3 | menu "é
   |        ^ no character begins so
   = mend: save the file as UTF-8
+form.tvd:4:1: syntax: the text ends too early: the `end` of the menu in line 3 is missing
+  |
+3 | menu "é
+  | ------- this menu is open
+  |
+4 | 
+  | ^ the text ends here
+  = mend: write `end` where the menu ends
 "#;
     expect_told(rt, text, wanted)
 }
@@ -728,6 +746,14 @@ fn seventeen_panes(rt: HostRuntime) -> Result<(), Fail> {
    |
 21 | pane in 2 1 8 2
    | ^^^^ not here
+form.tvd:22:1: syntax: the text ends too early: the `end` of the pane in line 21 is missing
+   |
+21 | pane in 2 1 8 2
+   | ------- this pane is open
+   |
+22 | 
+   | ^ the text ends here
+   = mend: write `end` where the pane ends
 "#;
     expect_told(rt, text.as_bytes(), wanted)
 }
