@@ -5,6 +5,7 @@ pub mod Rows
 pub mod Joined
 pub mod Appended
 pub mod Repeated
+pub mod PartLemmas
 pub mod Spread
 pub mod Lowest
 pub mod Stacks

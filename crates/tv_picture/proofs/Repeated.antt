@@ -12,15 +12,15 @@ use Rattle.tv_picture.proofs.Rows.{no_place, row_same, row_sequence, unended}
 use Rattle.tv_picture.proofs.Gathered.{dec, Names_same, Names_joined}
 
 -- what a prefix of the text leaves
-past_start : (text u v : List ℕ) → text ≡ u ++ v → drop (length u) text ≡ v
+pub past_start : (text u v : List ℕ) → text ≡ u ++ v → drop (length u) text ≡ v
 past_start text u v e = let none : 0 + length u ≡ length u = omega arith in subst (λ (n : ℕ). drop n text ≡ v) none (drop_past text 0 u v e)
 
-within_start : (text u v : List ℕ) → text ≡ u ++ v → length u ≤ length text
+pub within_start : (text u v : List ℕ) → text ≡ u ++ v → length u ≤ length text
 within_start text u v e = omega (arith, ap length e, length-append u v)
 
 -- ---- any number of times
 
-many_snoc : (b : Pattern) (y u : List ℕ) → IsMember (many b) y → IsMember b u → IsMember (many b) (y ++ u)
+pub many_snoc : (b : Pattern) (y u : List ℕ) → IsMember (many b) y → IsMember b u → IsMember (many b) (y ++ u)
 many_snoc b y u (pieces, all, e) m = (
   pieces ++ u ∷ [],
   All-append (IsMember b) pieces (u ∷ []) all (All-cons (IsMember b) u [] m (All-nil (IsMember b))),
@@ -198,7 +198,7 @@ counted_none table first len a b text same h each = row_same a (sequence a (time
     back : (t : List ℕ) → IsMember (sequence a (times 0 b)) t → IsMember a t
     back t (x, y, mx, my, e) = subst (IsMember a) (sym (e ∙ ap (λ z. x ++ z) ((times_zero b y).1 my) ∙ append-nil x)) mx
 
-counted_again : (a b : Pattern) (i : ℕ) (t : List ℕ) → IsMember (sequence (sequence a (times i b)) b) t ↔ IsMember (sequence a (times (i + 1) b)) t
+pub counted_again : (a b : Pattern) (i : ℕ) (t : List ℕ) → IsMember (sequence (sequence a (times i b)) b) t ↔ IsMember (sequence a (times (i + 1) b)) t
 counted_again a b i t = (forth, back)
   where
     forth : IsMember (sequence (sequence a (times i b)) b) t → IsMember (sequence a (times (i + 1) b)) t

@@ -8,8 +8,8 @@ use Rattle.tv_picture.specs.declared.code.Op.TheVariants.{Empty, One, Sequence, 
 use Rattle.tv_picture.specs.declared.code.Op.TheVariants.{Many, Times}
 use Rattle.tv_picture.specs.declared.row.Row.{Row}
 use Rattle.tv_picture.specs.declared.table.Table.{Table}
-use Rattle.tv_picture.specs.Code.{height_after}
-use Rattle.tv_picture.specs.Pattern.{Pattern}
+use Rattle.tv_picture.specs.Code.{height_after, pattern_of, run}
+use Rattle.tv_picture.specs.Pattern.{Pattern, sequence}
 use Rattle.tv_picture.specs.Table.{IsTableRow, HasEachRow}
 
 -- below the height stands something for each pattern, the first pattern's on top
@@ -65,3 +65,13 @@ StandsOver text first tables height ps =
 -- nothing stands on the stack, or these do
 abbrev pub StandsOn : List ℕ → Row → List Table → ℕ → List Pattern → Type 0
 StandsOn text first tables height ps = ((height ≡ 0) × (ps ≡ [])) ⊎ StandsOver text first tables height ps
+
+-- the code puts one pattern on whatever stack
+abbrev pub IsWhole : List Op → Type 0
+IsWhole code = (ps : List Pattern) → run ps code ≡ pattern_of code ∷ ps
+
+-- the row is of what has the first row and then the pattern of the code
+pub record Reads (first : Row) (code : List Op) (text : List ℕ) (row : Row) : Type 0 where
+  pub whole : IsWhole code
+  pub after :
+      (a : Pattern) → IsTableRow a text 0 first → IsTableRow (sequence a (pattern_of code)) text 0 row

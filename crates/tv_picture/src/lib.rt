@@ -4,6 +4,7 @@
 mod code;
 mod fault;
 mod parser;
+mod parts;
 mod picture;
 mod places;
 mod reading;

@@ -10,6 +10,7 @@ ghost use Rattle.tv_picture.specs.Table.{IsTableRow};
 use crate::code::Op;
 use crate::fault::PictureFault;
 use crate::parser::Parser;
+use crate::parts::read_parts;
 use crate::reading::read;
 use crate::row::{Next, Row};
 use crate::shortest::shortest;
@@ -95,7 +96,10 @@ impl Picture {
         requires { length text.now ≤ 120 }
         ensures { IsTableRow self.now text.now 0 result }
     {
-        read(&self.code, text)
+        match read_parts(&self.code, text) {
+            Some(row) => row,
+            None => read(&self.code, text),
+        }
     }
 
     /// Tells what the text is to the picture. A viable text can be completed by typing on, and a text that is no error is typed

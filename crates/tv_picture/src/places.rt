@@ -122,6 +122,13 @@ impl Places {
         places
     }
 
+    /// Returns how many places there are.
+    pub fn count(self) -> usize
+        ensures { result ≤ 128 }
+    {
+        self.bits.count_ones() as usize
+    }
+
     /// Whether each place of the set is below this one.
     #[inline(always)]
     pub fn is_below(self, place: usize) -> bool
