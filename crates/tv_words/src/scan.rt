@@ -48,8 +48,8 @@ impl Scanner {
     {
         match (&mut self.mode, ch) {
             (Mode::Between | Mode::Closed, ' ') => self.mode = Mode::Between,
-            (Mode::Between, '"') => self.mode = Mode::InQuoted(Chars::new(alloc)),
-            (Mode::Between, _) => self.mode = Mode::InBare(with(Chars::new(alloc), ch)?),
+            (Mode::Between, '"') => self.mode = Mode::InQuoted(room(alloc)?),
+            (Mode::Between, _) => self.mode = Mode::InBare(with(room(alloc)?, ch)?),
             (Mode::InBare(text), ' ') => {
                 let text = mem::replace(text, Chars::new(alloc));
                 self.words.push(Word::Bare(text))?;
@@ -92,6 +92,13 @@ impl Scanner {
             Mode::InQuoted(_) | Mode::InEscape(_) => Ok(None),
         }
     }
+}
+
+// A word without characters yet, with room for most words.
+fn room(alloc: Global) -> Result<Chars, AllocError>
+    ensures { IfOk result (λ text. text ≡ []) }
+{
+    Ok(Chars::from_vec(Vec::with_capacity(alloc, 16)?))
 }
 
 fn with(mut text: Chars, ch: char) -> Result<Chars, AllocError>
