@@ -67,21 +67,22 @@ impl Progress {
         let [word, name, rest @ ..] = words else {
             return Ok(other(self, words));
         };
+        let at = LinePlace { desc, line };
         if word.is(b"end") {
-            end(
-                alloc,
-                desc,
-                line,
-                self.answers,
-                name.name(),
-                command_in(rest),
-            )
+            end(alloc, at, self.answers, name.name(), command_in(rest))
         } else if word.is(b"field") {
-            field(alloc, desc, line, self, name.name(), rest)
+            field(alloc, at, self, name.name(), rest)
         } else {
             Ok(other(self, words))
         }
     }
+}
+
+// Where a line stands, and the description that it answers.
+#[derive(Clone, Copy)]
+struct LinePlace<'a> {
+    desc: &'a Desc,
+    line: usize,
 }
 
 fn other(read: Progress, words: &[Word]) -> Option<Progress>
@@ -169,38 +170,37 @@ fn no_end(
 // A dialog of the name ended by the command.
 fn ended(
     alloc: Global,
-    desc: &Desc,
-    line: usize,
+    at: LinePlace<'_>,
     answers: Answers,
     name: &Chars,
     command: Command,
 ) -> Result<Progress, AllocError>
-    ensures { IfOk result (λ read. read ≡ ended desc.now line answers name.now command) }
+    ensures { IfOk result (λ read. read ≡ ended at.entry.desc.now at.entry.line answers name.now command) }
 {
-    let Some(place) = place_of(desc.dialogs.as_slice(), name) else {
-        return no_dialog(alloc, answers, line, name);
+    let Some(place) = place_of(at.desc.dialogs.as_slice(), name) else {
+        return no_dialog(alloc, answers, at.line, name);
     };
-    if has_end(desc, place, command) {
+    if has_end(at.desc, place, command) {
         Ok(ended_by(answers, command, place))
     } else {
-        no_end(alloc, answers, line, name, command)
+        no_end(alloc, answers, at.line, name, command)
     }
 }
 
 // An `end` line.
 fn end(
     alloc: Global,
-    desc: &Desc,
-    line: usize,
+    at: LinePlace<'_>,
     answers: Answers,
     name: Option<&Chars>,
     command: Option<Command>,
 ) -> Result<Option<Progress>, AllocError>
-    ensures { IfOk result (λ further. further ≡ end_taken desc.now line answers (option_copied name.entry) command) }
+    ensures { IfOk result (λ further. further
+        ≡ end_taken at.entry.desc.now at.entry.line answers (option_copied name.entry) command) }
 {
     match (name, command) {
         (Some(name), Some(command)) => {
-            let read = ended(alloc, desc, line, answers, name, command)?;
+            let read = ended(alloc, at, answers, name, command)?;
             Ok(Some(read))
         }
         _ => Ok(None),
@@ -333,13 +333,13 @@ fn field_in_block(
 // A `field` line.
 fn field(
     alloc: Global,
-    desc: &Desc,
-    number: usize,
+    at: LinePlace<'_>,
     read: Progress,
     name: Option<&Chars>,
     words: &[Word],
 ) -> Result<Option<Progress>, AllocError>
-    ensures { IfOk result (λ further. further ≡ field_taken desc.now number read (option_copied name.entry) words.now) }
+    ensures { IfOk result (λ further. further
+        ≡ field_taken at.entry.desc.now at.entry.line read (option_copied name.entry) words.now) }
 {
     let Some(name) = name else {
         return Ok(None);
@@ -348,9 +348,9 @@ fn field(
         return Ok(None);
     }
     let line = FieldLine {
-        number,
+        number: at.line,
         name,
         words,
     };
-    field_in_block(alloc, desc, read, line)
+    field_in_block(alloc, at.desc, read, line)
 }
