@@ -81,15 +81,18 @@ fn order_of(rest: Rest) -> &'static str {
     }
 }
 
-// A word that may stand in the line, but not behind those before it.
-fn out_of_order(
-    alloc: Global,
-    form: &Form,
+// A word of a line, as it stands there.
+#[derive(Clone, Copy)]
+struct FoundWord<'a> {
     span: Span,
-    found: &str,
-) -> Result<Complaint, AllocError> {
-    let message = format!(in alloc; "`{found}` can't stand behind the words before it")?;
-    let complaint = Complaint::new(alloc, &message, span, order_of(form.rest))?;
+    text: &'a str,
+}
+
+// A word that may stand in the line, but not behind those before it.
+fn out_of_order(alloc: Global, form: &Form, found: FoundWord<'_>) -> Result<Complaint, AllocError> {
+    let text = found.text;
+    let message = format!(in alloc; "`{text}` can't stand behind the words before it")?;
+    let complaint = Complaint::new(alloc, &message, found.span, order_of(form.rest))?;
     let complaint = complaint.of_form(form);
     complaint.mended_by(alloc, "bring these words into their order")
 }
@@ -135,12 +138,11 @@ fn other_word(
     alloc: Global,
     form: &Form,
     wrong: Wrong,
-    span: Span,
-    found: &str,
+    found: FoundWord<'_>,
 ) -> Result<Complaint, AllocError> {
-    let message = other_text(alloc, form, wrong, found)?;
+    let message = other_text(alloc, form, wrong, found.text)?;
     let (_, label) = described(wrong.want);
-    let complaint = Complaint::new(alloc, &message, span, label)?;
+    let complaint = Complaint::new(alloc, &message, found.span, label)?;
     Ok(complaint.of_form(form))
 }
 
@@ -149,15 +151,14 @@ fn misfit_at(
     alloc: Global,
     form: &Form,
     wrong: Wrong,
-    span: Span,
-    word: &str,
+    found: FoundWord<'_>,
     next: Option<&Word>,
 ) -> Result<Complaint, AllocError> {
-    if wrong.want == Want::Nothing && further_words(form.rest).contains(&word) {
-        return out_of_order(alloc, form, span, word);
+    if wrong.want == Want::Nothing && further_words(form.rest).contains(&found.text) {
+        return out_of_order(alloc, form, found);
     }
-    let mend = word_mend(alloc, form, wrong.want, word, next)?;
-    let complaint = other_word(alloc, form, wrong, span, word)?;
+    let mend = word_mend(alloc, form, wrong.want, found.text, next)?;
+    let complaint = other_word(alloc, form, wrong, found)?;
     Ok(Complaint { mend, ..complaint })
 }
 
@@ -166,15 +167,16 @@ pub fn misfit(
     alloc: Global,
     line: &str,
     form: &Form,
-    found: &[Word],
+    list: &[Word],
     wrong: Wrong,
 ) -> Result<Complaint, AllocError> {
     let spans = words(alloc, line)?;
     match spans.get(wrong.at).copied() {
         Some(span) => {
             let word = text_at(alloc, line, span)?;
-            let next = found.get(wrong.at.saturating_add(1));
-            misfit_at(alloc, form, wrong, span, &word, next)
+            let next = list.get(wrong.at.saturating_add(1));
+            let found = FoundWord { span, text: &word };
+            misfit_at(alloc, form, wrong, found, next)
         }
         None => missing_word(alloc, line, form, wrong),
     }

@@ -184,17 +184,17 @@ fn saying_for_domain(
 // What is told of a fault that views alone can have.
 fn saying_for_view(
     alloc: Global,
-    fault: ViewFault,
+    kind: ViewFault,
     index: &Index,
-    declared: Declared,
-    why: Why,
+    fault: &Explained,
     line: &str,
 ) -> Result<Option<Saying>, AllocError> {
+    let declared = index.declared(fault.fault.line);
     let Some(node) = declared.subject.node() else {
         return Ok(None);
     };
-    let other = other_node(index, why);
-    match fault {
+    let other = other_node(index, fault.why);
+    match kind {
         ViewFault::Overlap => saying_for_overlap(alloc, index, declared.owner, node, other),
         ViewFault::LetterTwice => saying_for_letter(alloc, index, declared, node, other),
         ViewFault::LabelLink => Ok(Some(label_link(
@@ -204,7 +204,7 @@ fn saying_for_view(
             other,
         )?)),
         ViewFault::SecondDefault => Ok(Some(second_default(alloc)?)),
-        ViewFault::EmptyDomain => saying_for_domain(alloc, node, why, line),
+        ViewFault::EmptyDomain => saying_for_domain(alloc, node, fault.why, line),
         ViewFault::BadStart => bad_start(alloc, node),
     }
 }
@@ -266,7 +266,7 @@ pub fn saying_for(
         FaultGroup::OutsideLimits => Ok(Some(saying_for_limits(alloc, subject, why)?)),
         FaultGroup::BadOpening => saying_for_opening(alloc, index, subject, why),
         FaultGroup::MenuLetter => saying_for_menu_letter(alloc, subject),
-        FaultGroup::OfView(fault) => saying_for_view(alloc, fault, index, declared, why, line),
+        FaultGroup::OfView(kind) => saying_for_view(alloc, kind, index, fault, line),
         FaultGroup::OfRule(fault) => saying_for_rule(alloc, fault, index, declared, why),
     }
 }

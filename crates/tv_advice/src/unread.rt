@@ -9,6 +9,7 @@ use crate::judging::{Judged, complaint_about, judge, keyword_in, missing_line};
 use crate::note::Note;
 use crate::spans::{Span, end_of, line_in, line_of, lines_of, readable, text_at, words};
 use std::alloc::{AllocError, Global};
+use std::cmp::Ordering;
 use tv_words::Lines;
 
 /// Why a line can't be read.
@@ -128,20 +129,19 @@ fn keyword_before(
     }
 }
 
-// What is to be said of the line at this place, where the one of this number is the first that can't be read.
+// What is to be said of a line that stands so to the first that can't be read.
 fn judge_behind(
     alloc: Global,
     language: Language,
     line: &[u8],
     context: &Context,
-    at: usize,
-    number: usize,
+    place: Ordering,
 ) -> Result<Judged, AllocError> {
-    if number < at {
+    if place == Ordering::Greater {
         return judge(alloc, language, line, context);
     }
     Ok(Judged {
-        keyword: keyword_before(alloc, language, line, at == number)?,
+        keyword: keyword_before(alloc, language, line, place == Ordering::Equal)?,
         complaint: None,
     })
 }
@@ -164,7 +164,11 @@ pub fn explain_behind(
             return Ok(found);
         }
         let Judged { keyword, complaint } = judge_behind(
-            alloc, language, line, &context, at, number,
+            alloc,
+            language,
+            line,
+            &context,
+            at.cmp(&number),
         )?;
         if let Some(complaint) = complaint {
             found.push(unread_on(alloc, &lines, complaint, at)?)?;

@@ -12,7 +12,7 @@ use crate::tasks::read_up_to;
 use std::alloc::Global;
 use tv_check::Checked;
 use tv_io::Writer;
-use tv_program::{Trouble, answer_text};
+use tv_program::{NamedLog, Trouble, answer_text};
 use tv_session::{BuildFault, Views};
 use tv_view::View;
 
@@ -44,7 +44,11 @@ pub fn answer_file<
 {
     let desc = sound(files, alloc, paths.file)?;
     let text = read_up_to(files, alloc, paths.answers, LONGEST_LOG)?;
-    match answer_text(alloc, desc, text.as_slice(), paths.answers, views, out, err) {
+    let log = NamedLog {
+        name: paths.answers,
+        text: text.as_slice(),
+    };
+    match answer_text(alloc, desc, log, views, out, err) {
         Ok(()) => Ok(()),
         Err(fault) => Err(Failure::new(paths.file, paths.answers, Trouble::from(fault))),
     }

@@ -12,7 +12,7 @@ use crate::tasks::{read_file, read_up_to};
 use std::alloc::Global;
 use tv_io::Writer;
 use tv_model::Desc;
-use tv_program::{Trouble, fill_text, read_sound};
+use tv_program::{NamedLog, Trouble, fill_text, read_sound};
 
 /// The most bytes of answers.
 pub(crate) const LONGEST_LOG: usize = 1_048_576;
@@ -34,7 +34,11 @@ pub fn fill_file<'a, F: FileStore, W: Writer, E: Writer>(
 {
     let desc = sound(files, alloc, paths.file)?;
     let text = read_up_to(files, alloc, paths.answers, LONGEST_LOG)?;
-    match fill_text(alloc, desc, text.as_slice(), paths.answers, out, err) {
+    let log = NamedLog {
+        name: paths.answers,
+        text: text.as_slice(),
+    };
+    match fill_text(alloc, desc, log, out, err) {
         Ok(()) => Ok(()),
         Err(fault) => Err(Failure::new(paths.file, paths.answers, Trouble::from(fault))),
     }

@@ -11,7 +11,7 @@ ghost use Rattle.tv_program.specs.Reading.{IsSoundText};
 ghost use Rattle.tv_session.specs.Session.{StandsFor};
 
 use crate::answer_fault::{AnswerFault, Ending};
-use crate::filling::tell_misfits;
+use crate::filling::{NamedLog, tell_misfits};
 use crate::playing::{begin, read_checked};
 use crate::run_fault::RunFault;
 use std::alloc::{AllocError, Global};
@@ -46,21 +46,20 @@ pub fn answer_text<
 >(
     alloc: Global,
     desc: Desc,
-    answers: &[u8],
-    name: &str,
+    log: NamedLog<'_>,
     make: &F,
     out: &mut W,
     told: &mut E,
 ) -> Result<(), AnswerFault>
     requires { F.IsAlwaysCallable make.now }
-    ensures { AnswersTo (IsMismade (Makes F.Fn make.now) V.meaning) name.now desc answers.now
+    ensures { AnswersTo (IsMismade (Makes F.Fn make.now) V.meaning) log.entry.name.now desc log.entry.text.now
         (record { out = W.seen out.old; told = E.seen told.old })
         (record { out = W.seen out.new; told = E.seen told.new }) result }
 {
-    let read = read_answers(alloc, &desc, answers)?;
+    let read = read_answers(alloc, &desc, log.text)?;
     let misfits = read.misfits.as_slice();
     if !misfits.is_empty() {
-        tell_misfits(misfits, name, told);
+        tell_misfits(misfits, log.name, told);
         return Err(AnswerFault::Misfits);
     }
     let endings = endings_of(alloc, desc.dialogs.as_slice(), read.dialogs.as_slice())?;

@@ -20,6 +20,13 @@ use tv_lang::{parse, print};
 use tv_model::Desc;
 use tv_valid::Chars;
 
+/// A log that answers, and the name under which what doesn't fit in it is told.
+#[derive(Clone, Copy)]
+pub struct NamedLog<'a> {
+    pub name: &'a str,
+    pub text: &'a [u8],
+}
+
 /// Reads the description that a text spells, where it has no faults.
 pub fn read_sound(alloc: Global, text: &[u8]) -> Result<Desc, FillFault>
     ensures sound { IfOk result (λ desc. IsSoundText text.now desc) }
@@ -41,20 +48,19 @@ pub fn read_sound(alloc: Global, text: &[u8]) -> Result<Desc, FillFault>
 pub fn fill_text<W: Writer, E: Writer>(
     alloc: Global,
     desc: Desc,
-    answers: &[u8],
-    name: &str,
+    log: NamedLog<'_>,
     out: &mut W,
     told: &mut E,
 ) -> Result<(), FillFault>
-    ensures { CanBeSpelled desc → FillsTo name.now desc answers.now
+    ensures { CanBeSpelled desc → FillsTo log.entry.name.now desc log.entry.text.now
         (record { out = W.seen out.old; told = E.seen told.old })
         (record { out = W.seen out.new; told = E.seen told.new }) result }
 {
-    let read = read_answers(alloc, &desc, answers)?;
+    let read = read_answers(alloc, &desc, log.text)?;
     let full = filled(alloc, desc, &read)?;
     let printed = print(alloc, &full)?;
     read_sound(alloc, printed.as_bytes())?;
-    tell_misfits(read.misfits.as_slice(), name, told);
+    tell_misfits(read.misfits.as_slice(), log.name, told);
     write_all(out, printed.as_bytes())?;
     Ok(())
 }

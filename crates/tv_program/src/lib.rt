@@ -30,7 +30,7 @@ pub use check_fault::CheckFault;
 pub use checking::{accept_files, accept_text, check};
 pub use drawing::{draw, draw_shots};
 pub use fill_fault::FillFault;
-pub use filling::{fill_text, read_sound};
+pub use filling::{NamedLog, fill_text, read_sound};
 pub use message::report;
 pub use picture_fault::{DrawingFault, ShotFault};
 pub use playing::{read_checked, run, run_from};

@@ -3,7 +3,7 @@
 use std::alloc::Global;
 use std::test::Fail;
 use tv_model::Desc;
-use tv_program::{AnswerFault, FillFault, answer_text, read_sound};
+use tv_program::{AnswerFault, FillFault, NamedLog, answer_text, read_sound};
 use tv_test_support::button_views::buttons;
 use tv_test_support::{Memory, Question, expect_answers};
 
@@ -18,7 +18,8 @@ impl Question for Answering<'_> {
         let desc = desc_of(alloc, self.desc)?;
         let mut out = Memory::ample(alloc)?;
         let mut told = Memory::ample(alloc)?;
-        let ended = answer_text(alloc, desc, text, "LOG", &buttons, &mut out, &mut told);
+        let log = NamedLog { name: "LOG", text };
+        let ended = answer_text(alloc, desc, log, &buttons, &mut out, &mut told);
         let told = str::from_utf8(told.taken())?;
         let out = str::from_utf8(out.taken())?;
         match ended {

@@ -2,7 +2,7 @@
 
 use std::alloc::Global;
 use std::test::Fail;
-use tv_program::{FillFault, fill_text, read_sound};
+use tv_program::{FillFault, NamedLog, fill_text, read_sound};
 use tv_test_support::{Memory, Question, expect_answer, expect_answers};
 
 // What is told and written where a description is filled with the answers that a text has, or why it isn't filled.
@@ -34,7 +34,11 @@ fn fill(
     told: &mut Memory,
 ) -> Result<(), FillFault> {
     let desc = read_sound(alloc, desc.as_bytes())?;
-    fill_text(alloc, desc, answers, "LOG", out, told)
+    let log = NamedLog {
+        name: "LOG",
+        text: answers,
+    };
+    fill_text(alloc, desc, log, out, told)
 }
 
 fn fault_told(alloc: Global, fault: &FillFault) -> Result<String, Fail> {

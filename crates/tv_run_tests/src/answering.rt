@@ -9,7 +9,7 @@ use tv_case_texts::example_dialogs::{
 };
 use tv_case_texts::example_drags::PRICES_OUTPUT;
 use tv_check::Checked;
-use tv_program::{AnswerFault, answer_text, read_sound};
+use tv_program::{AnswerFault, NamedLog, answer_text, read_sound};
 use tv_session::{BuildFault, Views};
 use tv_test_support::descriptions::{COLOUR, ORDER};
 use tv_test_support::examples::{CONFIRM, DESK, PAY, PRICES, SEARCH, SETTINGS, WIZARD};
@@ -42,7 +42,8 @@ fn ended(alloc: Global, desc: &str, text: &[u8], out: &mut Memory) -> Result<&'s
         return Err(Fail::new("no sound description"));
     };
     let mut told = Memory::ample(alloc)?;
-    let ended = answer_text(alloc, desc, text, "LOG", &make, out, &mut told);
+    let log = NamedLog { name: "LOG", text };
+    let ended = answer_text(alloc, desc, log, &make, out, &mut told);
     match ended {
         Ok(()) => Ok(""),
         Err(fault) => why(&fault),

@@ -4,7 +4,7 @@ use super::ending::{Ending, expect, expect_whole};
 use super::fixtures::desc_of;
 use std::alloc::Global;
 use std::test::Fail;
-use tv_program::{AnswerFault, RunFault, answer_text};
+use tv_program::{AnswerFault, NamedLog, RunFault, answer_text};
 use tv_test_support::Memory;
 use tv_test_support::button_views::buttons;
 
@@ -22,9 +22,10 @@ fn ended(alloc: Global) -> Result<(), Ending> {
     let desc = desc_of(alloc, QUESTION)?;
     let mut out = Memory::ample(alloc)?;
     let mut told = Memory::ample(alloc)?;
-    let log = LOG.as_bytes();
-    match answer_text(alloc, desc, log, "LOG", &buttons, &mut out, &mut told) {
-        Ok(()) => expect(out.taken() == log, "another text"),
+    let text = LOG.as_bytes();
+    let log = NamedLog { name: "LOG", text };
+    match answer_text(alloc, desc, log, &buttons, &mut out, &mut told) {
+        Ok(()) => expect(out.taken() == text, "another text"),
         Err(AnswerFault::Run(RunFault::NoMemory)) => {
             expect(out.taken().is_empty(), "a part of the text")?;
             Err(Ending::NoMemory)

@@ -18,12 +18,12 @@ returns-in_err-runs g c =
     c.in_ok-endings.ensures
     ∙ ap (λ (ds : List Dialog). filter_map ending_of (zip ds c.as_slice-2.result.now)) c.as_slice.ensures
     ∙ ap (λ (xs : List Answer). filter_map ending_of (zip d.dialogs xs)) c.as_slice-2.ensures in
-    let fit : IsFitLog d c.args.answers.now a = record {
+    let fit : IsFitLog d c.args.log.text.now a = record {
       answered = c.in_ok-read.ensures.read;
       fit = sym c.as_slice-misfits.ensures ∙ none-is c.as_slice-misfits.result.now c.if-not-is_empty.ensures;
       some = same-some endings.items (endings_of d a) all (some-counted endings.items endings.len endings.ok.0 c.if-is_empty.ensures);
     } in
-    unbegun-AnswersTo Mismade c.args.name.now d c.args.answers.now a fit
+    unbegun-AnswersTo Mismade c.args.log.name.now d c.args.log.text.now a fit
     (record { out = g.W.Writer.seen c.args.out.now; told = g.E.Writer.seen c.args.told.now }) c.in_ok-full.full endings.items c.in_ok-full.ensures.filled all
     c.in_err-runs.field-0.0 c.in_err-runs.ensures.fault c.from_residual-in_err-runs.result c.from_residual-in_err-runs.ensures.1
 
@@ -37,12 +37,12 @@ returns g c =
     c.in_ok-endings.ensures
     ∙ ap (λ (ds : List Dialog). filter_map ending_of (zip ds c.as_slice-2.result.now)) c.as_slice.ensures
     ∙ ap (λ (xs : List Answer). filter_map ending_of (zip d.dialogs xs)) c.as_slice-2.ensures in
-    let fit : IsFitLog d c.args.answers.now a = record {
+    let fit : IsFitLog d c.args.log.text.now a = record {
       answered = c.in_ok-read.ensures.read;
       fit = sym c.as_slice-misfits.ensures ∙ none-is c.as_slice-misfits.result.now c.if-not-is_empty.ensures;
       some = same-some endings.items (endings_of d a) all (some-counted endings.items endings.len endings.ok.0 c.if-is_empty.ensures);
     } in
-    ends-AnswersTo Mismade c.args.name.now d c.args.answers.now a fit
+    ends-AnswersTo Mismade c.args.log.name.now d c.args.log.text.now a fit
     (record { out = g.W.Writer.seen c.args.out.now; told = g.E.Writer.seen c.args.told.now })
     (record { out = g.W.Writer.seen c.end_dialogs.new.out; told = g.E.Writer.seen c.args.told.now })
     c.in_ok-full.full endings.items c.in_ok-full.ensures.filled all

@@ -4,7 +4,7 @@ use Rattle.tv_program.proofs.filling.fill_text.Goals as goal
 
 pub returns-in_err-read_sound : goal.returns-in_err-read_sound
 returns-in_err-read_sound g c can =
-    unsound-FillsTo c.args.name.now c.args.desc c.args.answers.now c.in_ok-read.read c.in_ok-read.ensures.read
+    unsound-FillsTo c.args.log.name.now c.args.desc c.args.log.text.now c.in_ok-read.read c.in_ok-read.ensures.read
     c.in_ok-full.full c.in_ok-full.ensures.filled _ c.in_ok-printed.ensures.text (c.in_ok-printed.ensures.spelled (c.in_ok-full.ensures.spelled c.in_ok-read.ensures.spelled can))
     c.as_bytes.result.now c.as_bytes.ensures.value
     (record { out = g.W.Writer.seen c.args.out.now; told = g.E.Writer.seen c.args.told.now })
@@ -14,7 +14,7 @@ returns-in_err-read_sound g c can =
 pub returns-in_err-write_all : goal.returns-in_err-write_all
 returns-in_err-write_all g c can =
     let first : c.as_bytes-2.result.now ≡ c.as_bytes.result.now = c.as_bytes-2.ensures.value ∙ sym c.as_bytes.ensures.value in
-    cut-FillsTo c.args.name.now c.args.desc c.args.answers.now c.in_ok-read.read c.in_ok-read.ensures.read
+    cut-FillsTo c.args.log.name.now c.args.desc c.args.log.text.now c.in_ok-read.read c.in_ok-read.ensures.read
     c.in_ok-full.full c.in_ok-full.ensures.filled _ c.in_ok-printed.ensures.text (c.in_ok-printed.ensures.spelled (c.in_ok-full.ensures.spelled c.in_ok-read.ensures.spelled can))
     c.as_bytes-2.result.now c.as_bytes-2.ensures.value
     (record { out = g.W.Writer.seen c.args.out.now; told = g.E.Writer.seen c.args.told.now })
@@ -25,7 +25,7 @@ returns-in_err-write_all g c can =
 pub returns : goal.returns
 returns g c can =
     let first : c.as_bytes-2.result.now ≡ c.as_bytes.result.now = c.as_bytes-2.ensures.value ∙ sym c.as_bytes.ensures.value in
-    taken-FillsTo c.args.name.now c.args.desc c.args.answers.now c.in_ok-read.read c.in_ok-read.ensures.read
+    taken-FillsTo c.args.log.name.now c.args.desc c.args.log.text.now c.in_ok-read.read c.in_ok-read.ensures.read
     c.in_ok-full.full c.in_ok-full.ensures.filled _ c.in_ok-printed.ensures.text (c.in_ok-printed.ensures.spelled (c.in_ok-full.ensures.spelled c.in_ok-read.ensures.spelled can))
     c.as_bytes-2.result.now c.as_bytes-2.ensures.value
     (record { out = g.W.Writer.seen c.args.out.now; told = g.E.Writer.seen c.args.told.now })
