@@ -146,8 +146,20 @@ fn judge_behind(
     })
 }
 
+// Whether the line of this number ends with a carriage return, as all do in a file of DOS or Windows.
+fn has_return(lines: &[&str], number: usize) -> bool {
+    line_in(lines, number).ends_with('\r')
+}
+
+fn without_return(line: &[u8]) -> &[u8] {
+    match line {
+        [text @ .., b'\r'] => text,
+        _ => line,
+    }
+}
+
 /// Explains why lines behind the one of this number, the first that can't be read, can't be read either: as many as are told
-/// of at most.
+/// of at most. Where that one ends with a carriage return, those behind it may.
 pub fn explain_behind(
     alloc: Global,
     language: Language,
@@ -155,14 +167,20 @@ pub fn explain_behind(
     number: usize,
 ) -> Result<Vec<Unread>, AllocError> {
     let lines = lines_of(alloc, text)?;
+    let may_return = has_return(&lines, number);
     let mut context = Context::new(alloc, language);
     let mut found = Vec::new(alloc);
     let mut at = 0_usize;
-    for line in Lines::new(text) {
+    for whole in Lines::new(text) {
         at = at.saturating_add(1);
         if found.len() >= MOST {
             return Ok(found);
         }
+        let line = if may_return {
+            without_return(whole)
+        } else {
+            whole
+        };
         let Judged { keyword, complaint } = judge_behind(
             alloc,
             language,

@@ -603,22 +603,17 @@ fn tabs(rt: HostRuntime) -> Result<(), Fail> {
 
 #[test]
 fn carriage_returns(rt: HostRuntime) -> Result<(), Fail> {
-    let text = b"# Menus\r\ntvd 1\r\nscreen 40 12\r\n";
+    let text = b"# Menus\r\ntvd 1\r\nscreen 40 12\r\nframe\r\nstart form\r\n";
     let wanted = r#"form.tvd:1:8: syntax: a carriage return (U+000D) can't stand in a line
   |
 1 | # Menus␍
   |        ^ here
   = mend: save the file with Unix line ends
-form.tvd:2:6: syntax: a carriage return (U+000D) can't stand in a line
+form.tvd:4:1: syntax: no line begins with frame
   |
-2 | tvd 1␍
-  |      ^ here
-  = mend: save the file with Unix line ends
-form.tvd:3:13: syntax: a carriage return (U+000D) can't stand in a line
-  |
-3 | screen 40 12␍
-  |             ^ here
-  = mend: save the file with Unix line ends
+4 | frame␍
+  | ^^^^^ a keyword is wanted here
+  = mend: begin the line with menu, status, window or dialog
 "#;
     expect_told(rt, text, wanted)
 }
