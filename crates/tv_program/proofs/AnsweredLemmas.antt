@@ -1,5 +1,5 @@
 -- What answering a text comes to.
-use Rattle.std.proofs.Common.{◌≡◌, ◌≢◌, ◌==◌, ◌∙◌, ◌∷◌, Bool, true, false, ℕ, length, List, [], Option, Some, None, Result, Ok, Err, IfOk, IfErr, IsErrAnd, is_err, is_ok, if◌then◌else◌, is_some, option_map, inl, inr, refl, subst, sym, arith}
+use Rattle.std.proofs.Common.{◌≡◌, ◌≢◌, ◌==◌, ◌∙◌, ◌∷◌, All, Bool, true, false, ℕ, length, List, [], Option, Some, None, Result, Ok, Err, IfOk, IfErr, IsErrAnd, is_err, is_ok, if◌then◌else◌, is_some, option_map, inl, inr, refl, subst, sym, arith}
 use Rattle.std.proofs.lemmas.Bool.{eqb-true}
 use Rattle.tv_answers.specs.declared.answers.Answers.{Answers}
 use Rattle.tv_answers.specs.declared.reading.AnswersFault.{AnswersFault}
@@ -13,9 +13,15 @@ use Rattle.tv_program.specs.declared.answer_fault.Ending.{Ending}
 use Rattle.tv_program.specs.declared.run_fault.RunFault.{RunFault}
 use Rattle.tv_program.specs.declared.run_fault.RunFault.TheVariants as unrun
 use Rattle.tv_program.specs.AnswerFaults.{answers_told}
-use Rattle.tv_program.specs.Answering.{AnsweredRun, AnswersTo, AreRuns, IsFitLog, IsUnbegun, IsUnrun, RefusesRun, endings_of}
+use Rattle.tv_program.specs.Answering.{AnsweredRun, AnswersTo, AreRuns, IsFitLog, IsSafeAfter, IsUnbegun, IsUnrun, RefusesRun, after_end, begun_text, endings_of}
 use Rattle.tv_program.specs.AnswerRuns.{EndsAll}
 use Rattle.tv_program.specs.Filling.{Written}
+use Rattle.tv_program.specs.Reading.{IsSoundText}
+use Rattle.tv_program.proofs.RunLemmas.{lawful}
+use Rattle.tv_lawful.specs.Laws.{FitByLaws}
+use Rattle.tv_laws.specs.Runs.IsNext.{by_command}
+use Rattle.tv_machine.specs.Session.Start.{start}
+use Rattle.std.proofs.lemmas.List.Elements.{All-weaker}
 
 -- ---- results
 
@@ -35,6 +41,20 @@ IfErr-told P fault holds (Err other) told = rw told holds
 pub is_some-map : {A B : Type 0} (f : A → B) (x : Option A) → is_some (option_map f x) ≡ is_some x
 is_some-map f (Some a) = refl
 is_some-map f None = refl
+
+-- ---- runs
+
+-- a run of a sound description is safe after the end
+safe_after : (text : List ℕ) (run : AnsweredRun) → IsSoundText text run.desc → IsSafeAfter run
+safe_after text run read =
+    let fit : FitByLaws run.desc = (lawful text run.desc read).fit in
+    fit.safe (after_end run).state (fit.runs (start run.desc) (after_end run).state fit.starts (by_command run.ending.command.0 refl))
+
+-- so are all that are begun
+all_safe : (d : Desc) {endings : List Ending} (runs : List AnsweredRun) → AreRuns d endings runs → All IsSafeAfter runs
+all_safe d runs begun =
+    All-weaker (λ run. IsSoundText (begun_text d run.ending.dialog) run.desc) IsSafeAfter
+    (λ run read. safe_after (begun_text d run.ending.dialog) run read) runs begun.begun
 
 -- ---- what it comes to
 
@@ -72,14 +92,14 @@ module _ (Mismade : Desc → Type 0) (name : List ℕ) (d : Desc) (written : Lis
         rw told (unbegun fault (subst (λ (x : Desc). IsUnbegun Mismade x (endings_of d a) fault) whole (subst (λ (xs : List Ending). IsUnbegun Mismade full xs fault) all refuses)), refl)
 
     ends : (old new : Written) (runs : List AnsweredRun) → AreRuns (filled d a) (endings_of d a) runs → new.told ≡ old.told → (r : Result (Unit {0}) AnswerFault) → EndsAll runs old.out new.out r → AnswersTo Mismade name d written old new r
-    ends old new runs begun untold (Ok x) came = record { answers = a; runs = runs; fit = fit; begun = begun; logs = came.0; untold = untold; comes = came.1 }
+    ends old new runs begun untold (Ok x) came = record { answers = a; runs = runs; fit = fit; begun = begun; safe = all_safe (filled d a) runs begun; logs = came.0; untold = untold; comes = came.1 }
     ends old new runs begun untold (Err (fails.Run fault)) came = absurd came
     ends old new runs begun untold (Err (fails.Answers fault)) came = absurd came
     ends old new runs begun untold (Err fails.Misfits) came = absurd came
     ends old new runs begun untold (Err fails.NoAnswers) came = absurd came
-    ends old new runs begun untold (Err (fails.Disabled ending)) came = record { answers = a; runs = runs; fit = fit; begun = begun; logs = came.0; untold = untold; comes = came.1 }
-    ends old new runs begun untold (Err (fails.Refused ending)) came = record { answers = a; runs = runs; fit = fit; begun = begun; logs = came.0; untold = untold; comes = came.1 }
-    ends old new runs begun untold (Err fails.Write) came = record { answers = a; runs = runs; fit = fit; begun = begun; logs = came; untold = untold; comes = tt }
+    ends old new runs begun untold (Err (fails.Disabled ending)) came = record { answers = a; runs = runs; fit = fit; begun = begun; safe = all_safe (filled d a) runs begun; logs = came.0; untold = untold; comes = came.1 }
+    ends old new runs begun untold (Err (fails.Refused ending)) came = record { answers = a; runs = runs; fit = fit; begun = begun; safe = all_safe (filled d a) runs begun; logs = came.0; untold = untold; comes = came.1 }
+    ends old new runs begun untold (Err fails.Write) came = record { answers = a; runs = runs; fit = fit; begun = begun; safe = all_safe (filled d a) runs begun; logs = came; untold = untold; comes = tt }
 
     -- the runs were gone through
     pub ends-AnswersTo : (old new : Written) (full : Desc) (endings : List Ending) → full ≡ filled d a → endings ≡ endings_of d a → (runs : List AnsweredRun) → AreRuns full endings runs

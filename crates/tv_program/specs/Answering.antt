@@ -7,6 +7,7 @@ use Rattle.tv_answers.specs.Filling.{filled}
 use Rattle.tv_declarations.specs.CanonicalDescription.{description_text}
 use Rattle.tv_io.specs.Writer.{Seen, Takes, Cuts}
 use Rattle.tv_machine.specs.Run.{Session, commanded, quiet, started}
+use Rattle.tv_machine.specs.Safe.{IsSafe}
 use Rattle.tv_machine.specs.Session.Step.{takes_command}
 use Rattle.tv_model.specs.declared.desc.Desc.{Desc}
 use Rattle.tv_model.specs.declared.desc.Dialog.{Dialog}
@@ -86,6 +87,10 @@ runs_log (run ∷ runs) = run_log run ++ (if stays_open run then [] else runs_lo
 abbrev pub AllEnd : List AnsweredRun → Type 0
 AllEnd runs = find stays_open runs ≡ None
 
+-- after its end the run is safe: what its dialog saved is exactly that dialog's fields, each text in its domain
+abbrev pub IsSafeAfter : AnsweredRun → Type 0
+IsSafeAfter run = IsSafe run.desc (after_end run).state
+
 -- the first dialog that doesn't end is that of this end, which its rules allow, or not
 pub record StaysOpen (ending : Ending) (allowed : Bool) (runs : List AnsweredRun) : Type 0 where
   pub run : AnsweredRun
@@ -101,14 +106,15 @@ pub record IsFitLog (d : Desc) (written : List ℕ) (a : Answers) : Type 0 where
   pub fit : a.misfits ≡ []
   pub some : endings_of d a ≢ []
 
--- each answered dialog was given its end in a run of its own, up to the first that didn't end; of their logs this
--- was written, and it came to this
+-- each answered dialog was given its end in a run of its own, up to the first that didn't end, and each run is safe
+-- then; of their logs this was written, and it came to this
 pub record Ends (d : Desc) (written : List ℕ) (old new : Written) (Writes : Seen → Seen → List ℕ → Type 0)
     (Comes : List AnsweredRun → Type 0) : Type 0 where
   pub answers : Answers
   pub runs : List AnsweredRun
   pub fit : IsFitLog d written answers
   pub begun : AreRuns (filled d answers) (endings_of d answers) runs
+  pub safe : All IsSafeAfter runs
   pub logs : Writes old.out new.out (runs_log runs)
   pub untold : new.told ≡ old.told
   pub comes : Comes runs
