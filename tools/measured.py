@@ -20,6 +20,9 @@ FOURTEEN = KEYS.removesuffix("key Down\nkey Shift-Tab\n")
 # The dearest picture known to check: counts in counts, which have tables.
 NESTED = "[*2{*119{*@1}}]" * 8
 
+# The dearest one known to fill.
+FILLING = "[*2{*119{*--}}]" * 7 + "*118-z"
+
 
 def form():
     return (here / "form.tvd").read_text(encoding="utf-8")
@@ -97,7 +100,7 @@ def write(room):
         "form.tvd": form(),
         "dear.tvd": dear_inputs(),
         "fill.tvd": filled("#" + "-" * 118),
-        "costly.tvd": filled("[*2{*119{*--}}]" * 7 + "*118-z"),
+        "costly.tvd": filled(FILLING),
         "large.tvd": large(),
         "stars.tvd": inputs_with("*@" * 60, "a"),
         "nested.tvd": inputs_with(NESTED, "1"),
