@@ -13,6 +13,7 @@ use Rattle.tv_terminal.specs.Displays.{Displays, HasSpace, IsPrintable, ShowsIn,
 use Rattle.tv_terminal.specs.Written.{cell_bytes}
 use Rattle.tv_terminal.specs.Terminal.{Display, Terminal, ground, told}
 use Rattle.tv_terminal.specs.Writing.{Drawn, Draws, IsShown}
+use Rattle.tv_terminal.specs.declared.colour.Colours.{Colours}
 use Rattle.tv_terminal.specs.declared.hand.Hand.{Hand}
 use Rattle.tv_terminal.specs.declared.painter.Painter.{Painter}
 use Rattle.tv_terminal.proofs.ToldLemmas.{told-++, told-cell, from-eq, and-left, and-right}
@@ -72,6 +73,13 @@ room-still alike stays room = record {
   down = rw (alike.height, stays.rows) room.down;
 }
 
+-- the same colours by another word
+pub shows-by : {Region : ℕ → ℕ → Type 0} {p : Picture} {d e : Display} {a b : Colours} → b ≡ a → ShowsIn a Region p d e → ShowsIn b Region p d e
+shows-by {Region = Region} {p = p} {d = d} {e = e} same s = subst (λ (c : Colours). ShowsIn c Region p d e) (sym same) s
+
+pub displays-by : {p : Picture} {d : Display} {a b : Colours} → b ≡ a → Displays a p d → Displays b p d
+displays-by {p = p} {d = d} same s = subst (λ (c : Colours). Displays c p d) (sym same) s
+
 -- two pictures are as large as a third
 pub alike-still : {a b c : Picture} → IsAlike a c → IsAlike a b → IsAlike b c
 alike-still p q = record { width = p.width ∙ sym q.width; height = p.height ∙ sym q.height }
@@ -97,7 +105,7 @@ module _ {A B Whole : ℕ → ℕ → Type 0} (test : (column row : ℕ) → B c
     outside = λ column row on other. q.outside column row (on_new p on) (λ b. other (second column row b)) ∙ p.outside column row on (λ a. other (first column row a));
   }
 
-  shows-over : {screen : Picture} {d e f : Display} → ShowsIn A screen d e → ShowsIn B screen e f → ShowsIn Whole screen d f
+  shows-over : {colours : Colours} {screen : Picture} {d e f : Display} → ShowsIn colours A screen d e → ShowsIn colours B screen e f → ShowsIn colours Whole screen d f
   shows-over p q = record {
     inside = λ column row on here. elim (test column row) [
       | inl b ↦ q.inside column row on b
@@ -110,20 +118,22 @@ module _ {A B Whole : ℕ → ℕ → Type 0} (test : (column row : ℕ) → B c
       → Draws seen A screen old mid hand between x y → Draws seen B screen mid new between after y z → Draws seen Whole screen old new hand after x z
   draws-then {screen = screen} {hand = hand} {between = between} {after = after} p q = record {
     known = q.known ∙ p.known;
+    colours = q.colours ∙ p.colours;
+    same = q.same ∙ p.same;
     changes = changes-over screen p.changes q.changes;
     text = p.text ++ q.text;
     puts = puts-then hand.waiting.items between.waiting.items after.waiting.items p.text q.text p.puts q.puts;
-    tells = λ d knows room right.
-        tells-then p.text (p.tells d knows room right)
+    tells = λ d held knows room right.
+        tells-then p.text (p.tells d held knows room right)
         (λ e law. tells-as (λ f more. (
           more.0,
           more.1 ∙ law.1,
           record {
-            shows = shows-over law.2.shows more.2.shows;
+            shows = shows-over (shows-by q.colours law.2.shows) more.2.shows;
             right = more.2.right;
             stays = stays-then law.2.stays more.2.stays;
           },
-        )) (q.tells e law.0 (room-still p.changes.size law.2.stays room) law.2.right));
+        )) (q.tells e (p.same ∙ held ∙ sym p.colours) law.0 (room-still p.changes.size law.2.stays room) law.2.right));
   }
 
 -- the same region of the screen by other words
@@ -132,10 +142,12 @@ pub draws-along : {A B : ℕ → ℕ → Type 0} {W : Type 0} {seen : W → Seen
     → Draws seen A screen old new hand after x y → Draws seen B screen old new hand after x y
 draws-along alike to back p = record {
   known = p.known;
+  colours = p.colours;
+  same = p.same;
   changes = changes_along (λ column row on a. to column row a) (λ column row on b. back column row (record { across = rw alike.width on.across; down = rw alike.height on.down }) b) p.changes;
   text = p.text;
   puts = p.puts;
-  tells = λ d knows room right. tells-as (λ e law. (
+  tells = λ d held knows room right. tells-as (λ e law. (
     law.0,
     law.1,
     record {
@@ -146,17 +158,19 @@ draws-along alike to back p = record {
       right = law.2.right;
       stays = law.2.stays;
     },
-  )) (p.tells d knows room right);
+  )) (p.tells d held knows room right);
 }
 
 pub draws-none : {Region : ℕ → ℕ → Type 0} {W : Type 0} {seen : W → Seen} {screen : Picture} {painter : Painter} (hand : Hand) {x : Pen W} → ((column row : ℕ) → Region column row → ⊥)
     → Draws seen Region screen painter painter hand hand x x
 draws-none hand empty = record {
   known = refl;
+  colours = refl;
+  same = refl;
   changes = changes_none (λ column row on here. empty column row here);
   text = [];
   puts = puts-none hand.waiting.items;
-  tells = λ d knows room right. record {
+  tells = λ d held knows room right. record {
     after = d;
     is = refl;
     law = (
@@ -176,8 +190,10 @@ draws-none hand empty = record {
 -- nothing is written where the terminal is known to show it
 pub draws-same : {W : Type 0} {seen : W → Seen} {screen : Picture} {painter : Painter} (hand : Hand) {x : Pen W} (column row : ℕ) → IsAlike painter.shown screen → painter.is_known ≡ true
     → cell_at painter.shown column row ≡ cell_at screen column row → Draws seen (IsPlace column row) screen painter painter hand hand x x
-draws-same hand column row alike known same = record {
+draws-same {painter = painter} hand column row alike known same = record {
   known = refl;
+  colours = refl;
+  same = refl;
   changes = record {
     size = record { width = refl; height = refl };
     inside = λ a b on here. rw (here.0, here.1) same;
@@ -185,7 +201,7 @@ draws-same hand column row alike known same = record {
   };
   text = [];
   puts = puts-none hand.waiting.items;
-  tells = λ d knows room right. record {
+  tells = λ d held knows room right. record {
     after = d;
     is = refl;
     law = (
@@ -193,7 +209,7 @@ draws-same hand column row alike known same = record {
       refl,
       record {
         shows = record {
-          inside = λ a b on here. (right known).each a b (on-alike alike on) ∙ ap tile_of (rw (here.0, here.1) same);
+          inside = λ a b on here. (right known).each a b (on-alike alike on) ∙ ap (tile_of painter.colours) (rw (here.0, here.1) same);
           outside = λ a b other. refl;
         };
         right = right;
@@ -204,29 +220,29 @@ draws-same hand column row alike known same = record {
 }
 
 module _ (screen : Picture) (old new : Painter) (column row : ℕ) (cell : Glyph) (on : IsOn old.shown column row) (is : cell ≡ cell_at screen column row)
-    (took : Changes (IsPlace column row) (λ _ _ _. cell) old.shown new.shown) (known : new.is_known ≡ old.is_known) where
+    (took : Changes (IsPlace column row) (λ _ _ _. cell) old.shown new.shown) (known : new.is_known ≡ old.is_known) (colours : new.colours ≡ old.colours) where
   taken : cell_at new.shown column row ≡ cell
   taken = took.inside column row on (refl, refl)
 
-  shown-cell : (d : Display) (a b : ℕ) → Displays old.shown d → IsOn new.shown a b → (drawn column row cell d).cells a b ≡ tile_of (cell_at new.shown a b)
+  shown-cell : (d : Display) (a b : ℕ) → Displays old.colours old.shown d → IsOn new.shown a b → (drawn old.colours column row cell d).cells a b ≡ tile_of old.colours (cell_at new.shown a b)
   shown-cell d a b shows there = elim (place-test column row a b) [
-    | inl here ↦ rw (here.0, here.1) (spot-here d.cells column row (tile_of cell) ∙ ap tile_of (sym taken))
+    | inl here ↦ rw (here.0, here.1) (spot-here d.cells column row (tile_of old.colours cell) ∙ ap (tile_of old.colours) (sym taken))
     | inr other ↦
-        spot-other d.cells column row (tile_of cell) a b other
+        spot-other d.cells column row (tile_of old.colours cell) a b other
         ∙ shows.each a b (on_old took there)
-        ∙ ap tile_of (sym (took.outside a b (on_old took there) other))
+        ∙ ap (tile_of old.colours) (sym (took.outside a b (on_old took there) other))
   ]
 
-  drawn-cell : (d : Display) → HasSpace old.shown d → IsShown old d → Drawn (IsPlace column row) screen new d (drawn column row cell d)
+  drawn-cell : (d : Display) → HasSpace old.shown d → IsShown old d → Drawn (IsPlace column row) screen new d (drawn old.colours column row cell d)
   drawn-cell d room right = record {
-    shows = record {
-      inside = λ a b there here. rw (here.0, here.1) (spot-here d.cells column row (tile_of cell) ∙ ap tile_of is);
-      outside = λ a b other. spot-other d.cells column row (tile_of cell) a b other;
-    };
-    right = λ k. record {
+    shows = shows-by colours (record {
+      inside = λ a b there here. rw (here.0, here.1) (spot-here d.cells column row (tile_of old.colours cell) ∙ ap (tile_of old.colours) is);
+      outside = λ a b other. spot-other d.cells column row (tile_of old.colours cell) a b other;
+    });
+    right = λ k. displays-by colours (record {
       room = record { across = rw took.size.width room.across; down = rw took.size.height room.down };
       each = λ a b there. shown-cell d a b (right (sym known ∙ k)) there;
-    };
+    });
     stays = record { columns = refl; rows = refl; mouse = refl; reports = refl; meta = refl; alt = refl; pastes = refl; bells = refl; covered = refl; lost = refl };
   }
 
@@ -238,19 +254,22 @@ module _ (screen : Picture) (old new : Painter) (column row : ℕ) (cell : Glyph
   }
 
   pub draws-cell : {W : Type 0} {seen : W → Seen} {hand after : Hand} {x y : Pen W} → (column < 999) × (row < 999) → IsPrintable cell
-      → PutsPart seen x y hand.waiting.items (cell_bytes hand.place hand.attr column row cell) after.waiting.items
-      → after.place ≡ Some (record { 0 = column + 1; 1 = row }) → after.attr ≡ Some cell.attr → Draws seen (IsPlace column row) screen old new hand after x y
-  draws-cell {hand = hand} small printable puts place attr = record {
+      → PutsPart seen x y hand.waiting.items (cell_bytes hand.colours hand.place hand.attr column row cell) after.waiting.items
+      → after.place ≡ Some (record { 0 = column + 1; 1 = row }) → after.attr ≡ Some cell.attr → after.colours ≡ hand.colours → Draws seen (IsPlace column row) screen old new hand after x y
+  draws-cell {hand = hand} small printable puts place attr same = record {
     known = known;
+    colours = colours;
+    same = same;
     changes = cell-changes;
-    text = cell_bytes hand.place hand.attr column row cell;
+    text = cell_bytes hand.colours hand.place hand.attr column row cell;
     puts = puts;
-    tells = λ d knows room right. record {
-      after = drawn column row cell d;
+    tells = λ d held knows room right. record {
+      after = drawn old.colours column row cell d;
       is =
-          told-cell hand.place hand.attr column row cell d knows printable.narrow printable.scalar printable.attr
+          ap (λ (c : Colours). told (ground d) (cell_bytes c hand.place hand.attr column row cell)) held
+          ∙ told-cell old.colours hand.place hand.attr column row cell d knows printable.narrow printable.scalar printable.attr
           (omega (arith, on.across, room.across)) (omega (arith, on.down, room.down)) small.0 small.1;
-      law = (record { stands = rw place (refl, refl); writes = rw attr (refl, refl) }, refl, drawn-cell d room right);
+      law = (record { stands = rw place (refl, refl); writes = rw (attr, colours) (refl, refl) }, refl, drawn-cell d room right);
     };
   }
 

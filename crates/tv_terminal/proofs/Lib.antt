@@ -12,6 +12,7 @@ pub mod DrawLemmas
 pub mod RegionLemmas
 pub mod PaintLemmas
 mod Examples
+mod NearestExamples
 pub mod StripLemmas
 pub mod TextLemmas
 pub mod PutLemmas

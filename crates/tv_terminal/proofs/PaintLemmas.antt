@@ -12,12 +12,13 @@ use Rattle.tv_io.specs.declared.pen.Pen.{Pen}
 use Rattle.tv_io.proofs.PenLemmas.{Puts-then, Puts-along}
 use Rattle.tv_terminal.specs.Displays.{HasCursor, HasSpace, Knows, tile_of}
 use Rattle.tv_terminal.specs.Written.{begin_bytes, cursor_bytes, end_bytes, going, place_after, showing}
-use Rattle.tv_terminal.specs.Terminal.{kept_of, Covered, Display, Terminal, ground, plain_back, plain_front, told}
+use Rattle.tv_terminal.specs.Terminal.{Covered, Display, Plain, Terminal, ground, kept_of, told}
 use Rattle.tv_terminal.specs.Writing.{BeginsScreen, Drawn, Draws, IsRight, IsShown, Paints, restored}
+use Rattle.tv_terminal.specs.declared.colour.Colours.{Colours}
 use Rattle.tv_terminal.specs.declared.hand.Hand.{Hand}
 use Rattle.tv_terminal.specs.declared.painter.Painter.{Painter}
 use Rattle.tv_terminal.proofs.ToldLemmas.{told-++, told-going}
-use Rattle.tv_terminal.proofs.DrawLemmas.{on-alike, tells-then}
+use Rattle.tv_terminal.proofs.DrawLemmas.{displays-by, on-alike, shows-by, tells-then}
 
 true-not-false : {b : Bool} → b ≡ true → b ≡ false → ⊥
 true-not-false e f = let g : true ≡ false = sym e ∙ f in absurd cc
@@ -51,27 +52,27 @@ has-cursor None d = refl
 has-cursor (Some p) d = (refl, refl, refl)
 
 -- another painter that took over the same
-still-shown : (mid new : Painter) (e : Display) → new.shown ≡ mid.shown → new.is_known ≡ mid.is_known → (cursor : Option (ℕ × ℕ)) → IsShown mid e → IsShown new (with_cursor cursor e)
-still-shown mid new e shown known None shows k = let there = shows (sym known ∙ k) in rw shown (record { room = record { across = there.room.across; down = there.room.down }; each = there.each })
-still-shown mid new e shown known (Some p) shows k = let there = shows (sym known ∙ k) in rw shown (record { room = record { across = there.room.across; down = there.room.down }; each = there.each })
+still-shown : (mid new : Painter) (e : Display) → new.shown ≡ mid.shown → new.is_known ≡ mid.is_known → new.colours ≡ mid.colours → (cursor : Option (ℕ × ℕ)) → IsShown mid e → IsShown new (with_cursor cursor e)
+still-shown mid new e shown known colours None shows k = let there = shows (sym known ∙ k) in displays-by colours (rw shown (record { room = record { across = there.room.across; down = there.room.down }; each = there.each }))
+still-shown mid new e shown known colours (Some p) shows k = let there = shows (sym known ∙ k) in displays-by colours (rw shown (record { room = record { across = there.room.across; down = there.room.down }; each = there.each }))
 
-drawn-cursor : {Region : ℕ → ℕ → Type 0} {screen : Picture} {d : Display} (mid new : Painter) (e : Display) → new.shown ≡ mid.shown → new.is_known ≡ mid.is_known → (cursor : Option (ℕ × ℕ))
+drawn-cursor : {Region : ℕ → ℕ → Type 0} {screen : Picture} {d : Display} (mid new : Painter) (e : Display) → new.shown ≡ mid.shown → new.is_known ≡ mid.is_known → new.colours ≡ mid.colours → (cursor : Option (ℕ × ℕ))
     → Drawn Region screen mid d e → Drawn Region screen new d (with_cursor cursor e)
-drawn-cursor mid new e shown known None p = record {
-  shows = record { inside = p.shows.inside; outside = p.shows.outside };
-  right = still-shown mid new e shown known None p.right;
+drawn-cursor mid new e shown known colours None p = record {
+  shows = shows-by colours (record { inside = p.shows.inside; outside = p.shows.outside });
+  right = still-shown mid new e shown known colours None p.right;
   stays = record { columns = p.stays.columns; rows = p.stays.rows; mouse = p.stays.mouse; reports = p.stays.reports; meta = p.stays.meta; alt = p.stays.alt; pastes = p.stays.pastes; bells = p.stays.bells; covered = p.stays.covered; lost = p.stays.lost };
 }
-drawn-cursor mid new e shown known (Some q) p = record {
-  shows = record { inside = p.shows.inside; outside = p.shows.outside };
-  right = still-shown mid new e shown known (Some q) p.right;
+drawn-cursor mid new e shown known colours (Some q) p = record {
+  shows = shows-by colours (record { inside = p.shows.inside; outside = p.shows.outside });
+  right = still-shown mid new e shown known colours (Some q) p.right;
   stays = record { columns = p.stays.columns; rows = p.stays.rows; mouse = p.stays.mouse; reports = p.stays.reports; meta = p.stays.meta; alt = p.stays.alt; pastes = p.stays.pastes; bells = p.stays.bells; covered = p.stays.covered; lost = p.stays.lost };
 }
 
 -- what is known of the cursor and the colours then
-knows-after : (place : Option (ℕ × ℕ)) (attr' : Option ℕ) (cursor : Option (ℕ × ℕ)) (e : Display) → Knows place attr' e → Knows (place_after place cursor) attr' (with_cursor cursor e)
-knows-after place attr' None e k = record { stands = k.stands; writes = k.writes }
-knows-after place attr' (Some p) e k = record { stands = (refl, refl); writes = k.writes }
+knows-after : (colours : Colours) (place : Option (ℕ × ℕ)) (attr' : Option ℕ) (cursor : Option (ℕ × ℕ)) (e : Display) → Knows colours place attr' e → Knows colours (place_after place cursor) attr' (with_cursor cursor e)
+knows-after colours place attr' None e k = record { stands = k.stands; writes = k.writes }
+knows-after colours place attr' (Some p) e k = record { stands = (refl, refl); writes = k.writes }
 
 cursor-on : (cursor : Option (ℕ × ℕ)) (e : Display) → (with_cursor cursor e).has_cursor ≡ is_some cursor
 cursor-on None e = refl
@@ -93,29 +94,31 @@ puts-all waited waits text last empty p q =
 pub record HasFinished (mid new : Painter) (after : Hand) (cursor : Option (ℕ × ℕ)) : Type 0 where
   pub shown : new.shown ≡ mid.shown
   pub known : new.is_known ≡ mid.is_known
+  pub colours : new.colours ≡ mid.colours
   pub place : new.place ≡ place_after after.place cursor
   pub attr : new.attr ≡ after.attr
   pub shows : new.has_cursor ≡ Some (is_some cursor)
 
-right-after : (mid new : Painter) (after : Hand) (cursor : Option (ℕ × ℕ)) (e : Display) → HasFinished mid new after cursor → Knows after.place after.attr e → IsShown mid e → IsRight new (with_cursor cursor e)
+right-after : (mid new : Painter) (after : Hand) (cursor : Option (ℕ × ℕ)) (e : Display) → HasFinished mid new after cursor → Knows mid.colours after.place after.attr e → IsShown mid e → IsRight new (with_cursor cursor e)
 right-after mid new after cursor e f knows shows = record {
-  shows = still-shown mid new e f.shown f.known cursor shows;
-  knows = rw (f.place, f.attr) (knows-after after.place after.attr cursor e knows);
+  shows = still-shown mid new e f.shown f.known f.colours cursor shows;
+  knows = rw (f.place, f.attr, f.colours) (knows-after mid.colours after.place after.attr cursor e knows);
   cursor = rw f.shows (cursor-on cursor e);
 }
 
 module _ {W : Type 0} {seen : W → Seen} {Region : ℕ → ℕ → Type 0} {screen : Picture} {old mid new : Painter} {hand after : Hand} {x y z : Pen W} where
-  pub paints : (cursor : Option (ℕ × ℕ)) → hand.waiting.items ≡ [] → hand.place ≡ old.place → hand.attr ≡ old.attr → IsAlike old.shown screen
+  pub paints : (cursor : Option (ℕ × ℕ)) → hand.waiting.items ≡ [] → hand.place ≡ old.place → hand.attr ≡ old.attr → hand.colours ≡ old.colours → IsAlike old.shown screen
       → (screen.width < 999) × (screen.height < 999) → IfSome cursor (λ p. (p.0 < screen.width) × (p.1 < screen.height))
       → Draws seen Region screen old mid hand after x y → Puts seen y z (after.waiting.items ++ cursor_bytes after.place old.has_cursor cursor)
       → HasFinished mid new after cursor → Paints seen Region screen cursor old new x z
-  paints cursor empty place attr alike small on p q f = record {
+  paints cursor empty place attr held alike small on p q f = record {
     known = f.known ∙ p.known;
+    colours = f.colours ∙ p.colours;
     changes = rw f.shown p.changes;
     bytes = p.text ++ cursor_bytes after.place old.has_cursor cursor;
     puts = puts-all hand.waiting.items after.waiting.items p.text (cursor_bytes after.place old.has_cursor cursor) empty p.puts q;
     tells = λ d room right.
-        tells-then p.text (p.tells d (rw (place, attr) right.knows) room right.shows)
+        tells-then p.text (p.tells d held (rw (place, attr) right.knows) room right.shows)
         (λ e law. record {
           after = with_cursor cursor e;
           is = told-cursor after.place old.has_cursor cursor e law.0.stands (rw law.1 right.cursor)
@@ -123,7 +126,7 @@ module _ {W : Type 0} {seen : W → Seen} {Region : ℕ → ℕ → Type 0} {scr
               (omega (arith, alike.width, room.across, law.2.stays.columns)) (omega (arith, alike.height, room.down, law.2.stays.rows)) on)
               (on-terminal cursor screen.width screen.height 999 999 (omega (arith, small.0)) (omega (arith, small.1)) on);
           law = record {
-            drawn = drawn-cursor mid new e f.shown f.known cursor law.2;
+            drawn = drawn-cursor mid new e f.shown f.known f.colours cursor law.2;
             right = right-after mid new after cursor e f law.0 law.2.right;
             points = has-cursor cursor e;
           };
@@ -139,9 +142,9 @@ paints-for {seen = seen} {Region = Region} {screen = screen} {old = old} {new = 
 
 abbrev begun : Display → Display
 begun d = record d {
-  cells = λ _ _. record { ch = 32; front = plain_front; back = plain_back };
-  front = plain_front;
-  back = plain_back;
+  cells = λ _ _. record { ch = 32; front = Plain; back = Plain };
+  front = Plain;
+  back = Plain;
   covered = Some (kept_of d.covered d);
   has_mouse = true;
   has_long_reports = true;
@@ -168,12 +171,13 @@ blind-right d unknown nothing = record {
 }
 
 module _ {W : Type 0} {seen : W → Seen} {screen : Picture} {cursor : Option (ℕ × ℕ)} {old blind new last : Painter} {x y z : Pen W} where
-  pub begins : IsAlike old.shown screen → blind.shown ≡ old.shown → blind.is_known ≡ false → (blind.place ≡ None) × (blind.attr ≡ None) × (blind.has_cursor ≡ None)
-      → last.shown ≡ new.shown → last.is_known ≡ true → (last.place ≡ new.place) × (last.attr ≡ new.attr) × (last.has_cursor ≡ new.has_cursor) → Puts seen x y begin_bytes
+  pub begins : IsAlike old.shown screen → blind.shown ≡ old.shown → blind.colours ≡ old.colours → blind.is_known ≡ false → (blind.place ≡ None) × (blind.attr ≡ None) × (blind.has_cursor ≡ None)
+      → last.shown ≡ new.shown → last.colours ≡ new.colours → last.is_known ≡ true → (last.place ≡ new.place) × (last.attr ≡ new.attr) × (last.has_cursor ≡ new.has_cursor) → Puts seen x y begin_bytes
       → (rects : List Rect) → ((column row : ℕ) → IsOn screen column row → has_cell rects column row ≡ true)
       → Paints seen (λ column row. has_cell rects column row ≡ true) screen cursor blind new y z → BeginsScreen seen screen cursor old last x z
-  begins alike same unknown nothing end known kept opened rects all p = record {
+  begins alike same still unknown nothing end held known kept opened rects all p = record {
     known = known;
+    colours = held ∙ p.colours ∙ still;
     size = record { width = ap (λ (q : Picture). q.width) end ∙ p.changes.size.width ∙ ap (λ (q : Picture). q.width) same; height = ap (λ (q : Picture). q.height) end ∙ p.changes.size.height ∙ ap (λ (q : Picture). q.height) same };
     taken = λ column row on. rw end (p.changes.inside column row (rw same (on-alike alike on)) (all column row on));
     bytes = begin_bytes ++ p.bytes;
@@ -185,19 +189,19 @@ module _ {W : Type 0} {seen : W → Seen} {screen : Picture} {cursor : Option (�
           after = q.after;
           is = told-++ (ground d) begin_bytes p.bytes ∙ ap (λ (t : Terminal). told t p.bytes) (told-begin d) ∙ q.is;
           law = record {
-            shows = record {
+            shows = displays-by held (record {
               room = record { across = omega (arith, room.across, q.law.drawn.stays.columns); down = omega (arith, room.down, q.law.drawn.stays.rows) };
               each = λ column row on. q.law.drawn.shows.inside column row on (all column row on);
-            };
+            });
             right = record {
-              shows = λ k. rw end (record {
+              shows = λ k. displays-by held (rw end (record {
                 room = record { across = omega (arith, room.across, q.law.drawn.stays.columns, p.changes.size.width, ap (λ (o : Picture). o.width) same, alike.width); down = omega (arith, room.down, q.law.drawn.stays.rows, p.changes.size.height, ap (λ (o : Picture). o.height) same, alike.height) };
                 each = λ column row on.
                     let there : IsOn screen column row = record { across = omega (arith, on.across, p.changes.size.width, ap (λ (o : Picture). o.width) same, alike.width); down = omega (arith, on.down, p.changes.size.height, ap (λ (o : Picture). o.height) same, alike.height) } in
                     q.law.drawn.shows.inside column row there (all column row there)
-                    ∙ ap tile_of (sym (p.changes.inside column row (rw same (on-alike alike there)) (all column row there)));
-              });
-              knows = rw (kept.0, kept.1) q.law.right.knows;
+                    ∙ ap (tile_of new.colours) (sym (p.changes.inside column row (rw same (on-alike alike there)) (all column row there)));
+              }));
+              knows = rw (kept.0, kept.1, held) q.law.right.knows;
               cursor = rw kept.2 q.law.right.cursor;
             };
             points = q.law.points;

@@ -1,13 +1,15 @@
 -- What a terminal makes of the sequences that are written.
-use Rattle.std.proofs.Common.{◌≡◌, ℕ, ◌+◌, ◌-◌, ◌*◌, ◌/◌, ◌%◌, ◌<◌, ◌≤◌, Bool, true, false, List, [], ◌∷◌, ◌++◌, Option, Some, None, refl, ap, ◌∙◌, arith, encode_utf8, nat_le, nat_lt, zero, suc, ◌&&◌, ◌||◌, not, ◌==◌, inl, inr, IfSome, unwrap_or, min, max, sym, if◌then◌else◌}
+use Rattle.std.proofs.Common.{◌≡◌, ℕ, ◌+◌, ◌-◌, ◌*◌, ◌/◌, ◌%◌, ◌<◌, ◌≤◌, Bool, true, false, List, [], ◌∷◌, ◌++◌, Option, Some, None, refl, ap, ◌∙◌, arith, encode_utf8, nat_le, nat_lt, zero, suc, ◌&&◌, ◌==◌, inl, inr, IfSome, unwrap_or, min, max, slice_index, sym, if◌then◌else◌}
 use Rattle.std.proofs.lemmas.Bool.{cases_lt, ne_eqb}
 use Rattle.std.proofs.lemmas.Bool.Decides.{nat_tests}
 use Rattle.std.proofs.lemmas.Str.{encode_ascii}
 use lib.Utf8.{encode}
 use Rattle.unicode_width.specs.Width.{char_width}
 use Rattle.tv_cells.specs.Glyph.{Glyph, IsNarrow, is_narrow}
-use Rattle.tv_terminal.specs.Written.{number_bytes, place_bytes, right_bytes, colour_bytes, one_colour_bytes, front_number, back_number, going, colouring, recolouring, cell_bytes}
-use Rattle.tv_terminal.specs.Terminal.{Display, Terminal, Numbers, Character, in_mode, ground, told, byte_told, cursor_placed, put, with_tile, is_decimal_digit, colour_set, first_told, cell_number, moved_right}
+use Rattle.tv_terminal.specs.Written.{number_bytes, place_bytes, right_bytes, colour_bytes, one_colour_bytes, own_numbers, fixed_indices, own_parameter, front_of, back_of, front_bytes, back_bytes, going, colouring, recolouring, cell_bytes}
+use Rattle.tv_terminal.specs.Terminal.{Display, Terminal, Own, Fixed, Numbers, Character, in_mode, ground, told, byte_told, cursor_placed, put, with_tile, is_decimal_digit, colour_set, colours_set, index_set, first_told, cell_number, moved_right}
+use Rattle.tv_terminal.specs.declared.colour.Colours.{Colours}
+use Rattle.tv_terminal.specs.declared.colour.Colours.TheVariants.{Sixteen, Indexed}
 use Rattle.tv_terminal.specs.Displays.{Knows, drawn}
 
 pub told-++ : (t : Terminal) (a b : List ℕ) → told t (a ++ b) ≡ told (told t a) b
@@ -63,18 +65,6 @@ told-place column row d across down =
     ∙ ap (λ (t : Terminal). told t (59 ∷ number_bytes (column + 1))) (told-number false [] d (row + 1) (omega arith))
     ∙ told-number false ((row + 1) ∷ []) d (column + 1) (omega arith))
 
--- the colours of an attribute
-abbrev with_colours : ℕ → Display → Display
-with_colours attr d = record d { front = front_number attr; back = back_number attr }
-
-told-colours-of : (front back : ℕ) (d : Display) → front < 1000 → back < 1000 → told (ground d) (27 ∷ 91 ∷ number_bytes front ++ 59 ∷ number_bytes back ++ 109 ∷ []) ≡ ground (colour_set back (colour_set front d))
-told-colours-of front back d f b =
-    told-++ (ground d) (27 ∷ 91 ∷ number_bytes front ++ 59 ∷ number_bytes back) (109 ∷ [])
-    ∙ ap (λ (t : Terminal). told t (109 ∷ [])) (
-    told-++ (ground d) (27 ∷ 91 ∷ number_bytes front) (59 ∷ number_bytes back)
-    ∙ ap (λ (t : Terminal). told t (59 ∷ number_bytes back)) (told-number false [] d front f)
-    ∙ told-number false (front ∷ []) d back b)
-
 -- what is so of each number below a bound, by computation
 abbrev all_to : (n : ℕ) → (ℕ → Bool) → Bool
 all_to zero p = true
@@ -95,59 +85,156 @@ all-at p (suc n) k e lt = elim (cases_lt k n) [
   | inr ge ↦ let same : n ≡ k = omega arith in rw same at (and-left (p n) (all_to n p) e)
 ]
 
-abbrev is_front : ℕ → Bool
-is_front n = (nat_le 30 n && nat_le n 37) || (nat_le 90 n && nat_le n 97)
-
-abbrev is_back : ℕ → Bool
-is_back n = (nat_le 40 n && nat_le n 47) || (nat_le 100 n && nat_le n 107)
-
-abbrev fits : ℕ → Bool
-fits a = is_front (front_number a) && (is_back (back_number a) && (not (front_number a == 0) && (not (back_number a == 0) && not (is_front (back_number a)))))
-
-all_fit : all_to 256 fits ≡ true
-all_fit = refl
-
-not-true : (b : Bool) → not b ≡ true → b ≡ false
-not-true false e = refl
-not-true true e = absurd cc
-
-front-set : (attr : ℕ) (d : Display) → attr < 256 → colour_set (front_number attr) d ≡ record d { front = front_number attr }
-front-set attr d lt =
-    let all = all-at fits 256 attr all_fit lt in
-    let front = and-left (is_front (front_number attr)) _ all in
-    let after = and-right (is_front (front_number attr)) _ all in
-    let rest = and-right (is_back (back_number attr)) _ after in
-    let some = not-true (front_number attr == 0) (and-left (not (front_number attr == 0)) _ rest) in
-    rw (some, front) refl
-
-back-set : (attr : ℕ) (d : Display) → attr < 256 → colour_set (back_number attr) d ≡ record d { back = back_number attr }
-back-set attr d lt =
-    let all = all-at fits 256 attr all_fit lt in
-    let after = and-right (is_front (front_number attr)) _ all in
-    let back = and-left (is_back (back_number attr)) _ after in
-    let rest = and-right (is_back (back_number attr)) _ after in
-    let last = and-right (not (front_number attr == 0)) _ rest in
-    let some = not-true (back_number attr == 0) (and-left (not (back_number attr == 0)) _ last) in
-    let other = not-true (is_front (back_number attr)) (and-right (not (back_number attr == 0)) _ last) in
-    rw (some, other, back) refl
-
-abbrev small : ℕ → Bool
-small a = nat_lt (front_number a) 1000 && nat_lt (back_number a) 1000
-
-all_small : all_to 256 small ≡ true
-all_small = refl
-
 below : (m n : ℕ) → nat_lt m n ≡ true → m < n
 below m n e = grind (arith, nat_tests)
 
-told-colours : (attr : ℕ) (d : Display) → attr < 256 → told (ground d) (colour_bytes attr) ≡ ground (with_colours attr d)
-told-colours attr d lt =
-    let all = all-at small 256 attr all_small lt in
-    let front = below (front_number attr) 1000 (and-left (nat_lt (front_number attr) 1000) _ all) in
-    let back = below (back_number attr) 1000 (and-right (nat_lt (front_number attr) 1000) _ all) in
-    told-colours-of (front_number attr) (back_number attr) d front back
-    ∙ ap (λ (e : Display). ground (colour_set (back_number attr) e)) (front-set attr d lt)
-    ∙ ap ground (back-set attr (record d { front = front_number attr }) lt)
+-- the tables: sixteen of the terminal's own, and sixteen of the fixed ones
+own-few : (n : ℕ) → n < 16 → slice_index own_numbers n < 16
+own-few n lt = below (slice_index own_numbers n) 16 (all-at (λ k. nat_lt (slice_index own_numbers k) 16) 16 n refl lt)
+
+fixed-few : (n : ℕ) → n < 16 → slice_index fixed_indices n < 256
+fixed-few n lt = below (slice_index fixed_indices n) 256 (all-at (λ k. nat_lt (slice_index fixed_indices k) 256) 16 n refl lt)
+
+fixed-from : (n : ℕ) → n < 16 → 15 < slice_index fixed_indices n
+fixed-from n lt = below 15 (slice_index fixed_indices n) (all-at (λ k. nat_lt 15 (slice_index fixed_indices k)) 16 n refl lt)
+
+-- one of the terminal's own
+own-front : (k : ℕ) (d : Display) → k < 16 → colour_set (own_parameter 30 k) d ≡ record d { front = Own k }
+own-front k d lt = elim (cases_lt k 8) [
+  | inl few ↦
+      let is : own_parameter 30 k ≡ 30 + k = grind (arith, nat_tests) in
+      let a : (30 + k == 0) ≡ false = grind (arith, nat_tests) in
+      let b : nat_le 30 (30 + k) ≡ true = grind (arith, nat_tests) in
+      let c : nat_le (30 + k) 37 ≡ true = grind (arith, nat_tests) in
+      let e : 30 + k - 30 ≡ k = omega arith in
+      rw (is, a, b, c, e) refl
+  | inr many ↦
+      let is : own_parameter 30 k ≡ 82 + k = grind (arith, nat_tests) in
+      let a : (82 + k == 0) ≡ false = grind (arith, nat_tests) in
+      let b : nat_le 30 (82 + k) ≡ true = grind (arith, nat_tests) in
+      let c : nat_le (82 + k) 37 ≡ false = grind (arith, nat_tests) in
+      let f : nat_le 90 (82 + k) ≡ true = grind (arith, nat_tests) in
+      let g : nat_le (82 + k) 97 ≡ true = grind (arith, nat_tests) in
+      let e : 82 + k - 82 ≡ k = omega arith in
+      rw (is, a, b, c, f, g, e) refl
+]
+
+own-back : (k : ℕ) (d : Display) → k < 16 → colour_set (own_parameter 40 k) d ≡ record d { back = Own k }
+own-back k d lt = elim (cases_lt k 8) [
+  | inl few ↦
+      let is : own_parameter 40 k ≡ 40 + k = grind (arith, nat_tests) in
+      let a : (40 + k == 0) ≡ false = grind (arith, nat_tests) in
+      let b : nat_le (40 + k) 37 ≡ false = grind (arith, nat_tests) in
+      let c : nat_le 90 (40 + k) ≡ false = grind (arith, nat_tests) in
+      let f : nat_le 40 (40 + k) ≡ true = grind (arith, nat_tests) in
+      let g : nat_le (40 + k) 47 ≡ true = grind (arith, nat_tests) in
+      let h : nat_le 30 (40 + k) ≡ true = grind (arith, nat_tests) in
+      let e : 40 + k - 40 ≡ k = omega arith in
+      rw (is, a, h, b, c, f, g, e) refl
+  | inr many ↦
+      let is : own_parameter 40 k ≡ 92 + k = grind (arith, nat_tests) in
+      let a : (92 + k == 0) ≡ false = grind (arith, nat_tests) in
+      let b : nat_le (92 + k) 37 ≡ false = grind (arith, nat_tests) in
+      let h : nat_le 30 (92 + k) ≡ true = grind (arith, nat_tests) in
+      let c : nat_le 90 (92 + k) ≡ true = grind (arith, nat_tests) in
+      let i : nat_le (92 + k) 97 ≡ false = grind (arith, nat_tests) in
+      let f : nat_le 40 (92 + k) ≡ true = grind (arith, nat_tests) in
+      let j : nat_le (92 + k) 47 ≡ false = grind (arith, nat_tests) in
+      let g : nat_le 100 (92 + k) ≡ true = grind (arith, nat_tests) in
+      let l : nat_le (92 + k) 107 ≡ true = grind (arith, nat_tests) in
+      let e : 92 + k - 92 ≡ k = omega arith in
+      rw (is, a, h, b, c, i, f, j, g, l, e) refl
+]
+
+-- one of the fixed ones
+fixed-front : (k : ℕ) (d : Display) → 15 < k → k < 256 → index_set 38 k d ≡ record d { front = Fixed k }
+fixed-front k d ge lt =
+    let a : nat_lt k 16 ≡ false = grind (arith, nat_tests) in
+    let b : nat_lt 255 k ≡ false = grind (arith, nat_tests) in
+    rw (a, b) refl
+
+fixed-back : (k : ℕ) (d : Display) → 15 < k → k < 256 → index_set 48 k d ≡ record d { back = Fixed k }
+fixed-back k d ge lt =
+    let a : nat_lt k 16 ≡ false = grind (arith, nat_tests) in
+    let b : nat_lt 255 k ≡ false = grind (arith, nat_tests) in
+    rw (a, b) refl
+
+-- what sets one of the sixteen, whatever the terminal was told before
+parameter-few : (first k : ℕ) → first < 100 → k < 16 → own_parameter first k < 1000
+parameter-few first k f lt = grind (arith, nat_tests)
+
+told-own : (n : ℕ) (d : Display) → n < 1000 → told (ground d) (one_colour_bytes (number_bytes n)) ≡ ground (colour_set n d)
+told-own n d few =
+    told-++ (ground d) (27 ∷ 91 ∷ number_bytes n) (109 ∷ []) ∙ ap (λ (t : Terminal). told t (109 ∷ [])) (told-number false [] d n few)
+
+told-index : (layer k : ℕ) (d : Display) → layer < 1000 → k < 1000
+    → told (ground d) (one_colour_bytes (number_bytes layer ++ 59 ∷ 53 ∷ 59 ∷ number_bytes k)) ≡ ground (colours_set (layer ∷ 5 ∷ k ∷ []) d)
+told-index layer k d l few =
+    told-++ (ground d) (27 ∷ 91 ∷ number_bytes layer ++ 59 ∷ 53 ∷ 59 ∷ number_bytes k) (109 ∷ [])
+    ∙ ap (λ (t : Terminal). told t (109 ∷ [])) (
+    told-++ (ground d) (27 ∷ 91 ∷ number_bytes layer) (59 ∷ 53 ∷ 59 ∷ number_bytes k)
+    ∙ ap (λ (t : Terminal). told t (59 ∷ 53 ∷ 59 ∷ number_bytes k)) (told-number false [] d layer l)
+    ∙ told-number false (5 ∷ layer ∷ []) d k few)
+
+front-set : (colours : Colours) (attr : ℕ) (d : Display) → told (ground d) (one_colour_bytes (front_bytes colours attr)) ≡ ground (record d { front = front_of colours attr })
+front-set Sixteen attr d =
+    let few = own-few (attr % 16) (omega arith) in
+    told-own (own_parameter 30 (slice_index own_numbers (attr % 16))) d (parameter-few 30 _ (omega arith) few)
+    ∙ ap ground (own-front (slice_index own_numbers (attr % 16)) d few)
+front-set Indexed attr d =
+    let few = fixed-few (attr % 16) (omega arith) in
+    told-index 38 (slice_index fixed_indices (attr % 16)) d (omega arith) (omega (arith, few))
+    ∙ ap ground (fixed-front (slice_index fixed_indices (attr % 16)) d (fixed-from (attr % 16) (omega arith)) few)
+
+back-set : (colours : Colours) (attr : ℕ) (d : Display) → attr < 256 → told (ground d) (one_colour_bytes (back_bytes colours attr)) ≡ ground (record d { back = back_of colours attr })
+back-set Sixteen attr d lt =
+    let few = own-few (attr / 16) (omega arith) in
+    told-own (own_parameter 40 (slice_index own_numbers (attr / 16))) d (parameter-few 40 _ (omega arith) few)
+    ∙ ap ground (own-back (slice_index own_numbers (attr / 16)) d few)
+back-set Indexed attr d lt =
+    let few = fixed-few (attr / 16) (omega arith) in
+    told-index 48 (slice_index fixed_indices (attr / 16)) d (omega arith) (omega (arith, few))
+    ∙ ap ground (fixed-back (slice_index fixed_indices (attr / 16)) d (fixed-from (attr / 16) (omega arith)) few)
+
+-- the colours of an attribute
+abbrev with_colours : Colours → (attr : ℕ) → Display → Display
+with_colours colours attr d = record d { front = front_of colours attr; back = back_of colours attr }
+
+told-both : (front back : ℕ) (d : Display) → front < 1000 → back < 1000 → told (ground d) (27 ∷ 91 ∷ number_bytes front ++ 59 ∷ number_bytes back ++ 109 ∷ []) ≡ ground (colour_set back (colour_set front d))
+told-both front back d f b =
+    told-++ (ground d) (27 ∷ 91 ∷ number_bytes front ++ 59 ∷ number_bytes back) (109 ∷ [])
+    ∙ ap (λ (t : Terminal). told t (109 ∷ [])) (
+    told-++ (ground d) (27 ∷ 91 ∷ number_bytes front) (59 ∷ number_bytes back)
+    ∙ ap (λ (t : Terminal). told t (59 ∷ number_bytes back)) (told-number false [] d front f)
+    ∙ told-number false (front ∷ []) d back b)
+
+-- 38 ; 5 ; front ; 48 ; 5 ; back
+told-indices : (front back : ℕ) (d : Display) → front < 1000 → back < 1000
+    → told (ground d) (27 ∷ 91 ∷ 51 ∷ 56 ∷ 59 ∷ 53 ∷ 59 ∷ number_bytes front ++ 59 ∷ 52 ∷ 56 ∷ 59 ∷ 53 ∷ 59 ∷ number_bytes back ++ 109 ∷ []) ≡ ground (index_set 48 back (index_set 38 front d))
+told-indices front back d f b =
+    told-++ (ground d) (27 ∷ 91 ∷ 51 ∷ 56 ∷ 59 ∷ 53 ∷ 59 ∷ number_bytes front ++ 59 ∷ 52 ∷ 56 ∷ 59 ∷ 53 ∷ 59 ∷ number_bytes back) (109 ∷ [])
+    ∙ ap (λ (t : Terminal). told t (109 ∷ [])) (
+    told-++ (ground d) (27 ∷ 91 ∷ 51 ∷ 56 ∷ 59 ∷ 53 ∷ 59 ∷ number_bytes front) (59 ∷ 52 ∷ 56 ∷ 59 ∷ 53 ∷ 59 ∷ number_bytes back)
+    ∙ ap (λ (t : Terminal). told t (59 ∷ 52 ∷ 56 ∷ 59 ∷ 53 ∷ 59 ∷ number_bytes back)) (told-number false (5 ∷ 38 ∷ []) d front f)
+    ∙ told-number false (5 ∷ 48 ∷ front ∷ 5 ∷ 38 ∷ []) d back b)
+
+told-colours : (colours : Colours) (attr : ℕ) (d : Display) → attr < 256 → told (ground d) (colour_bytes colours attr) ≡ ground (with_colours colours attr d)
+told-colours Sixteen attr d lt =
+    let front = slice_index own_numbers (attr % 16) in
+    let back = slice_index own_numbers (attr / 16) in
+    let f = own-few (attr % 16) (omega arith) in
+    let b = own-few (attr / 16) (omega arith) in
+    told-both (own_parameter 30 front) (own_parameter 40 back) d (parameter-few 30 front (omega arith) f) (parameter-few 40 back (omega arith) b)
+    ∙ ap (λ (e : Display). ground (colour_set (own_parameter 40 back) e)) (own-front front d f)
+    ∙ ap ground (own-back back (record d { front = Own front }) b)
+told-colours Indexed attr d lt =
+    let front = slice_index fixed_indices (attr % 16) in
+    let back = slice_index fixed_indices (attr / 16) in
+    let f = fixed-few (attr % 16) (omega arith) in
+    let b = fixed-few (attr / 16) (omega arith) in
+    told-indices front back d (omega (arith, f)) (omega (arith, b))
+    ∙ ap (λ (e : Display). ground (index_set 48 back e)) (fixed-front front d (fixed-from (attr % 16) (omega arith)) f)
+    ∙ ap ground (fixed-back back (record d { front = Fixed front }) (fixed-from (attr / 16) (omega arith)) b)
 
 -- ---- characters
 
@@ -346,33 +433,21 @@ told-going (Some p) column row d is across down small few =
     (λ e. (below-test p.0 column (and-left _ _ e), from-eq p.1 row (and-right (nat_lt p.0 column) _ e)))
     across down small few
 
--- one colour of an attribute
-told-one_colour : (number : ℕ) (d : Display) → number < 1000 → told (ground d) (one_colour_bytes number) ≡ ground (colour_set number d)
-told-one_colour number d few =
-    told-++ (ground d) (27 ∷ 91 ∷ number_bytes number) (109 ∷ []) ∙ ap (λ (t : Terminal). told t (109 ∷ [])) (told-number false [] d number few)
+-- what differs of two attributes' colours
+told-recolouring : (colours : Colours) (is_front is_back : Bool) (set attr : ℕ) (d : Display) → (d.front ≡ front_of colours set) × (d.back ≡ back_of colours set)
+    → (is_front ≡ true → set % 16 ≡ attr % 16) → (is_back ≡ true → set / 16 ≡ attr / 16) → attr < 256
+    → told (ground d) (recolouring colours attr is_front is_back) ≡ ground (with_colours colours attr d)
+told-recolouring colours true true set attr d is front back lt = rw (← front refl, ← back refl, ← is.0, ← is.1) refl
+told-recolouring colours true false set attr d is front back lt = back-set colours attr d lt ∙ rw (← front refl, ← is.0) refl
+told-recolouring colours false true set attr d is front back lt = front-set colours attr d ∙ rw (← back refl, ← is.1) refl
+told-recolouring colours false false set attr d is front back lt = told-colours colours attr d lt
 
-front-small : (attr : ℕ) → attr < 256 → front_number attr < 1000
-front-small attr lt = below (front_number attr) 1000 (and-left (nat_lt (front_number attr) 1000) _ (all-at small 256 attr all_small lt))
-
-back-small : (attr : ℕ) → attr < 256 → back_number attr < 1000
-back-small attr lt = below (back_number attr) 1000 (and-right (nat_lt (front_number attr) 1000) _ (all-at small 256 attr all_small lt))
-
-told-recolouring : (is_front is_back : Bool) (set attr : ℕ) (d : Display) → (d.front ≡ front_number set) × (d.back ≡ back_number set)
-    → (is_front ≡ true → front_number set ≡ front_number attr) → (is_back ≡ true → back_number set ≡ back_number attr) → attr < 256
-    → told (ground d) (recolouring set attr is_front is_back) ≡ ground (with_colours attr d)
-told-recolouring true true set attr d is front back lt = rw (← front refl, ← back refl, ← is.0, ← is.1) refl
-told-recolouring true false set attr d is front back lt =
-    told-one_colour (back_number attr) d (back-small attr lt) ∙ ap ground (back-set attr d lt) ∙ rw (← front refl, ← is.0) refl
-told-recolouring false true set attr d is front back lt =
-    told-one_colour (front_number attr) d (front-small attr lt) ∙ ap ground (front-set attr d lt) ∙ rw (← back refl, ← is.1) refl
-told-recolouring false false set attr d is front back lt = told-colours attr d lt
-
-told-colouring : (set : Option ℕ) (attr : ℕ) (d : Display) → IfSome set (λ a. (d.front ≡ front_number a) × (d.back ≡ back_number a)) → attr < 256
-    → told (ground d) (colouring set attr) ≡ ground (with_colours attr d)
-told-colouring None attr d is lt = told-colours attr d lt
-told-colouring (Some a) attr d is lt =
-    told-recolouring (front_number a == front_number attr) (back_number a == back_number attr) a attr d is
-    (from-eq (front_number a) (front_number attr)) (from-eq (back_number a) (back_number attr)) lt
+told-colouring : (colours : Colours) (set : Option ℕ) (attr : ℕ) (d : Display) → IfSome set (λ a. (d.front ≡ front_of colours a) × (d.back ≡ back_of colours a)) → attr < 256
+    → told (ground d) (colouring colours set attr) ≡ ground (with_colours colours attr d)
+told-colouring colours None attr d is lt = told-colours colours attr d lt
+told-colouring colours (Some a) attr d is lt =
+    told-recolouring colours (a % 16 == attr % 16) (a / 16 == attr / 16) a attr d is
+    (from-eq (a % 16) (attr % 16)) (from-eq (a / 16) (attr / 16)) lt
 
 put-within : (ch : ℕ) (d : Display) → IsNarrow ch → d.column < d.columns → put ch d ≡ record d {
   cells = with_tile d.cells d.column d.row (record { ch = ch; front = d.front; back = d.back });
@@ -383,13 +458,13 @@ put-within ch d narrow lt =
     rw (narrow-test ch narrow, a) refl
 
 -- whatever was known of the cursor and the colours, the cell shows
-pub told-cell : (place : Option (ℕ × ℕ)) (attr : Option ℕ) (column row : ℕ) (g : Glyph) (d : Display) → Knows place attr d → IsNarrow g.ch → g.ch < 1114112 → g.attr < 256
-    → column < d.columns → row < d.rows → column < 999 → row < 999 → told (ground d) (cell_bytes place attr column row g) ≡ ground (drawn column row g d)
-told-cell place attr column row g d knows narrow scalar colours across down small few =
-    told-++ (ground d) (going place column row ++ colouring attr g.attr) (encode_utf8 g.ch)
+pub told-cell : (colours : Colours) (place : Option (ℕ × ℕ)) (attr : Option ℕ) (column row : ℕ) (g : Glyph) (d : Display) → Knows colours place attr d → IsNarrow g.ch → g.ch < 1114112 → g.attr < 256
+    → column < d.columns → row < d.rows → column < 999 → row < 999 → told (ground d) (cell_bytes colours place attr column row g) ≡ ground (drawn colours column row g d)
+told-cell colours place attr column row g d knows narrow scalar shade across down small few =
+    told-++ (ground d) (going place column row ++ colouring colours attr g.attr) (encode_utf8 g.ch)
     ∙ ap (λ (t : Terminal). told t (encode_utf8 g.ch)) (
-    told-++ (ground d) (going place column row) (colouring attr g.attr)
-    ∙ ap (λ (t : Terminal). told t (colouring attr g.attr)) (told-going place column row d knows.stands across down small few)
-    ∙ told-colouring attr g.attr (moved column row d) knows.writes colours)
-    ∙ told-char g.ch (with_colours g.attr (moved column row d)) scalar (narrow-plain g.ch narrow)
-    ∙ ap ground (put-within g.ch (with_colours g.attr (moved column row d)) narrow across)
+    told-++ (ground d) (going place column row) (colouring colours attr g.attr)
+    ∙ ap (λ (t : Terminal). told t (colouring colours attr g.attr)) (told-going place column row d knows.stands across down small few)
+    ∙ told-colouring colours attr g.attr (moved column row d) knows.writes shade)
+    ∙ told-char g.ch (with_colours colours g.attr (moved column row d)) scalar (narrow-plain g.ch narrow)
+    ∙ ap ground (put-within g.ch (with_colours colours g.attr (moved column row d)) narrow across)

@@ -2,12 +2,13 @@
 use Rattle.std.specs.Prelude.{◌≡◌, ℕ, ◌≤◌, ◌<◌, ◌+◌, true, false, Option, Some, None, IfSome, List}
 use Rattle.tv_cells.specs.Glyph.{Glyph, IsNarrow}
 use Rattle.tv_cells.specs.Picture.{Picture, IsOn, cell_at}
-use Rattle.tv_terminal.specs.Written.{front_number, back_number}
+use Rattle.tv_terminal.specs.Written.{back_of, front_of}
 use Rattle.tv_terminal.specs.Terminal.{Tile, Display, ground, told, with_tile}
+use Rattle.tv_terminal.specs.declared.colour.Colours.{Colours}
 
 -- the place that shows a glyph
-abbrev pub tile_of : Glyph → Tile
-tile_of g = record { ch = g.ch; front = front_number g.attr; back = back_number g.attr }
+abbrev pub tile_of : Colours → Glyph → Tile
+tile_of colours g = record { ch = g.ch; front = front_of colours g.attr; back = back_of colours g.attr }
 
 -- there is room for the picture
 pub record HasSpace (p : Picture) (d : Display) : Type 0 where
@@ -15,9 +16,9 @@ pub record HasSpace (p : Picture) (d : Display) : Type 0 where
   pub down : p.height ≤ d.rows
 
 -- and each of its cells shows, from the corner on
-pub record Displays (p : Picture) (d : Display) : Type 0 where
+pub record Displays (colours : Colours) (p : Picture) (d : Display) : Type 0 where
   pub room : HasSpace p d
-  pub each : (column row : ℕ) → IsOn p column row → d.cells column row ≡ tile_of (cell_at p column row)
+  pub each : (column row : ℕ) → IsOn p column row → d.cells column row ≡ tile_of colours (cell_at p column row)
 
 -- the size and the modes are as before, and nothing was told that is not in the definition
 pub record Stays (old new : Display) : Type 0 where
@@ -33,9 +34,9 @@ pub record Stays (old new : Display) : Type 0 where
   pub lost : new.is_lost ≡ old.is_lost
 
 -- in a region each cell of the picture shows, and no place outside it has changed
-pub record ShowsIn (Region : ℕ → ℕ → Type 0) (p : Picture) (old new : Display) : Type 0 where
+pub record ShowsIn (colours : Colours) (Region : ℕ → ℕ → Type 0) (p : Picture) (old new : Display) : Type 0 where
   pub inside : (column row : ℕ) → IsOn p column row → Region column row
-      → new.cells column row ≡ tile_of (cell_at p column row)
+      → new.cells column row ≡ tile_of colours (cell_at p column row)
   pub outside : (column row : ℕ) → (Region column row → ⊥) → new.cells column row ≡ old.cells column row
 
 -- the cursor shows at a place, or not at all
@@ -50,18 +51,18 @@ pub record Becomes (bytes : List ℕ) (d : Display) (After : Display → Type 0)
   pub law : After after
 
 -- the cursor stands at a place, and the colours are those of an attribute, where these are known
-pub record Knows (place : Option (ℕ × ℕ)) (attr : Option ℕ) (d : Display) : Type 0 where
+pub record Knows (colours : Colours) (place : Option (ℕ × ℕ)) (attr : Option ℕ) (d : Display) : Type 0 where
   pub stands : IfSome place (λ p. (d.column ≡ p.0) × (d.row ≡ p.1))
-  pub writes : IfSome attr (λ a. (d.front ≡ front_number a) × (d.back ≡ back_number a))
+  pub writes : IfSome attr (λ a. (d.front ≡ front_of colours a) × (d.back ≡ back_of colours a))
 
 -- a cell is shown at a place, with the cursor behind it
-abbrev pub drawn : (column row : ℕ) → Glyph → Display → Display
-drawn column row g d = record d {
+abbrev pub drawn : Colours → (column row : ℕ) → Glyph → Display → Display
+drawn colours column row g d = record d {
   column = column + 1;
   row = row;
-  front = front_number g.attr;
-  back = back_number g.attr;
-  cells = with_tile d.cells column row (tile_of g);
+  front = front_of colours g.attr;
+  back = back_of colours g.attr;
+  cells = with_tile d.cells column row (tile_of colours g);
 }
 
 -- the cell has a character of one column, and an attribute

@@ -1,16 +1,23 @@
 -- A terminal, as what it makes of bytes: the sequences of ECMA-48 and of xterm that are used here. Columns
 -- and rows count from 0, and a sequence counts them from 1.
 use Rattle.std.specs.Prelude.{ℕ, ◌+◌, ◌-◌, ◌*◌, List, [], ◌∷◌, Option, Some, None, Bool, true, false, ◌&&◌}
-use Rattle.std.specs.Prelude.{◌||◌, ◌==◌, nat_le, nat_lt, min, max, if◌then◌else◌}
+use Rattle.std.specs.Prelude.{◌||◌, ◌==◌, nat_le, nat_lt, min, max, reverse, if◌then◌else◌}
 use Rattle.tv_cells.specs.Glyph.{is_narrow}
 
 -- ---- what it shows
 
--- a place: its character, and its colours as the numbers that set them
+-- a colour: the one that no number has set; of the terminal's own sixteen one by its number from 0 on; of the 256
+-- one by its index from 16 on, which is fixed
+pub data Colour : Type 0 where
+  Plain : Colour
+  Own : (number : ℕ) → Colour
+  Fixed : (index : ℕ) → Colour
+
+-- a place: its character, and its colours
 pub record Tile : Type 0 where
   pub ch : ℕ
-  pub front : ℕ
-  pub back : ℕ
+  pub front : Colour
+  pub back : Colour
 
 -- the normal screen, while the alternate one shows
 pub record Covered : Type 0 where
@@ -27,8 +34,8 @@ pub record Display : Type 0 where
   pub cells : ℕ → ℕ → Tile
   pub column : ℕ
   pub row : ℕ
-  pub front : ℕ
-  pub back : ℕ
+  pub front : Colour
+  pub back : Colour
   pub has_cursor : Bool
   pub has_mouse : Bool
   pub has_long_reports : Bool
@@ -74,26 +81,35 @@ moved_right n d = record d { column = min (d.column + max n 1) (d.columns - 1) }
 abbrev pub cleared : Display → Display
 cleared d = record d { cells = λ _ _. record { ch = 32; front = d.front; back = d.back } }
 
--- the colours that no number has set
-abbrev pub plain_front : ℕ
-plain_front = 39
-
-abbrev pub plain_back : ℕ
-plain_back = 49
-
 -- a number of `m`: 0 for the plain colours, eight for the front and eight for the ground behind, and the same
 -- bright
 abbrev pub colour_set : ℕ → Display → Display
 colour_set n d =
-    if n == 0 then record d { front = plain_front; back = plain_back }
-    else if (nat_le 30 n && nat_le n 37) || (nat_le 90 n && nat_le n 97) then record d { front = n }
-    else if (nat_le 40 n && nat_le n 47) || (nat_le 100 n && nat_le n 107) then record d { back = n }
+    if n == 0 then record d { front = Plain; back = Plain }
+    else if nat_le 30 n && nat_le n 37 then record d { front = Own (n - 30) }
+    else if nat_le 90 n && nat_le n 97 then record d { front = Own (n - 82) }
+    else if nat_le 40 n && nat_le n 47 then record d { back = Own (n - 40) }
+    else if nat_le 100 n && nat_le n 107 then record d { back = Own (n - 92) }
     else lost d
 
--- several of them, of which the last stands first
+-- three numbers of `m`, 38 or 48, 5 and an index: one of the 256 for the front, or for the ground behind
+abbrev pub is_indexing : (layer five : ℕ) → Bool
+is_indexing layer five = ((layer == 38) || (layer == 48)) && (five == 5)
+
+abbrev pub index_set : (layer index : ℕ) → Display → Display
+index_set layer index d =
+    if nat_lt index 16 || nat_lt 255 index then lost d
+    else if layer == 38 then record d { front = Fixed index }
+    else record d { back = Fixed index }
+
+-- all numbers of `m`, one after the other
 abbrev pub colours_set : List ℕ → Display → Display
 colours_set [] d = d
-colours_set (n ∷ before) d = colour_set n (colours_set before d)
+colours_set (a ∷ []) d = colour_set a d
+colours_set (a ∷ b ∷ []) d = colour_set b (colour_set a d)
+colours_set (a ∷ b ∷ c ∷ more) d =
+    if is_indexing a b then colours_set more (index_set a c d)
+    else colours_set (b ∷ c ∷ more) (colour_set a d)
 
 -- the normal screen: the one that shows, unless the alternate one does
 abbrev pub kept_of : Option Covered → Display → Covered
@@ -156,7 +172,7 @@ after_sequence c false last [] d =
     else if (c == 74) && (last == 2) then cleared d
     else lost d
 after_sequence c false last (first ∷ before) d =
-    if c == 109 then colours_set (last ∷ first ∷ before) d
+    if c == 109 then colours_set (reverse (last ∷ first ∷ before)) d
     else if c == 72 then cursor_placed first last d
     else lost d
 

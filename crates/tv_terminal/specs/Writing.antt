@@ -5,25 +5,25 @@ use Rattle.tv_io.specs.Pen.{Puts, PutsPart}
 use Rattle.tv_io.specs.Writer.{Seen}
 use Rattle.tv_io.specs.declared.pen.Pen.{Pen}
 use Rattle.tv_terminal.specs.Displays.{Displays, HasCursor, HasSpace, Knows, ShowsIn, Stays, Becomes}
-use Rattle.tv_terminal.specs.Terminal.{Covered, Display, kept_of, plain_back, plain_front}
+use Rattle.tv_terminal.specs.Terminal.{Covered, Display, Plain, kept_of}
 use Rattle.tv_terminal.specs.declared.hand.Hand.{Hand}
 use Rattle.tv_terminal.specs.declared.painter.Painter.{Painter}
 
 -- what a painter takes the terminal to show is what it shows
 abbrev pub IsShown : Painter → Display → Type 0
-IsShown painter d = painter.is_known ≡ true → Displays painter.shown d
+IsShown painter d = painter.is_known ≡ true → Displays painter.colours painter.shown d
 
 -- and so is what it takes its cursor and its colours to be
 pub record IsRight (painter : Painter) (d : Display) : Type 0 where
   pub shows : IsShown painter d
-  pub knows : Knows painter.place painter.attr d
+  pub knows : Knows painter.colours painter.place painter.attr d
   pub cursor : IfSome painter.has_cursor (λ is_on. d.has_cursor ≡ is_on)
 
 -- ---- the cells of a region
 
 -- what a terminal shows after the cells of a region of a screen were written
 pub record Drawn (Region : ℕ → ℕ → Type 0) (screen : Picture) (new : Painter) (d e : Display) : Type 0 where
-  pub shows : ShowsIn Region screen d e
+  pub shows : ShowsIn new.colours Region screen d e
   pub right : IsShown new e
   pub stays : Stays d e
 
@@ -31,11 +31,14 @@ pub record Drawn (Region : ℕ → ℕ → Type 0) (screen : Picture) (new : Pai
 pub record Draws {W : Type 0} (seen : W → Seen) (Region : ℕ → ℕ → Type 0) (screen : Picture)
     (old new : Painter) (hand after : Hand) (before later : Pen W) : Type 0 where
   pub known : new.is_known ≡ old.is_known
+  pub colours : new.colours ≡ old.colours
+  pub same : after.colours ≡ hand.colours
   pub changes : Changes Region (λ column row _. cell_at screen column row) old.shown new.shown
   pub text : List ℕ
   pub puts : PutsPart seen before later hand.waiting.items text after.waiting.items
-  pub tells : (d : Display) → Knows hand.place hand.attr d → HasSpace old.shown d → IsShown old d
-      → Becomes text d (λ e. Knows after.place after.attr e × (e.has_cursor ≡ d.has_cursor) × Drawn Region screen new d e)
+  pub tells : (d : Display) → hand.colours ≡ old.colours → Knows old.colours hand.place hand.attr d
+      → HasSpace old.shown d → IsShown old d → Becomes text d
+      (λ e. Knows new.colours after.place after.attr e × (e.has_cursor ≡ d.has_cursor) × Drawn Region screen new d e)
 
 -- ---- a screen
 
@@ -50,6 +53,7 @@ pub record Painted (Region : ℕ → ℕ → Type 0) (screen : Picture) (cursor 
 pub record Paints {W : Type 0} (seen : W → Seen) (Region : ℕ → ℕ → Type 0) (screen : Picture)
     (cursor : Option (ℕ × ℕ)) (old new : Painter) (before after : Pen W) : Type 0 where
   pub known : new.is_known ≡ old.is_known
+  pub colours : new.colours ≡ old.colours
   pub changes : Changes Region (λ column row _. cell_at screen column row) old.shown new.shown
   pub bytes : List ℕ
   pub puts : Puts seen before after bytes
@@ -61,7 +65,7 @@ pub record Paints {W : Type 0} (seen : W → Seen) (Region : ℕ → ℕ → Typ
 -- the alternate screen shows the whole screen, the mouse is on, Meta and Alt are sent as ESC, and what is pasted
 -- in brackets; the normal screen is kept
 pub record Begun (screen : Picture) (cursor : Option (ℕ × ℕ)) (new : Painter) (d e : Display) : Type 0 where
-  pub shows : Displays screen e
+  pub shows : Displays new.colours screen e
   pub right : IsRight new e
   pub points : HasCursor cursor e
   pub columns : e.columns ≡ d.columns
@@ -78,6 +82,7 @@ pub record Begun (screen : Picture) (cursor : Option (ℕ × ℕ)) (new : Painte
 pub record BeginsScreen {W : Type 0} (seen : W → Seen) (screen : Picture) (cursor : Option (ℕ × ℕ))
     (old new : Painter) (before after : Pen W) : Type 0 where
   pub known : new.is_known ≡ true
+  pub colours : new.colours ≡ old.colours
   pub size : IsAlike old.shown new.shown
   pub taken : (column row : ℕ) → IsOn screen column row
       → cell_at new.shown column row ≡ cell_at screen column row
@@ -93,8 +98,8 @@ restored c d = record d {
   column = c.column;
   row = c.row;
   covered = None;
-  front = plain_front;
-  back = plain_back;
+  front = Plain;
+  back = Plain;
   has_cursor = true;
   has_mouse = false;
   has_long_reports = false;

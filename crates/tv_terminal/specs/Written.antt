@@ -6,6 +6,9 @@ use Rattle.tv_cells.specs.Glyph.{Glyph}
 use Rattle.tv_cells.specs.Layers.{is_in}
 use Rattle.tv_cells.specs.Rectangle.{sized}
 use Rattle.tv_cells.specs.declared.rect.Point.{Point}
+use Rattle.tv_terminal.specs.Terminal.{Colour, Own, Fixed}
+use Rattle.tv_terminal.specs.declared.colour.Colours.{Colours}
+use Rattle.tv_terminal.specs.declared.colour.Colours.TheVariants.{Sixteen, Indexed}
 
 -- ---- numbers and colours
 
@@ -16,17 +19,44 @@ number_bytes n =
     else if nat_lt n 100 then (48 + n / 10) ∷ (48 + n % 10) ∷ []
     else (48 + n / 100) ∷ (48 + n / 10 % 10) ∷ (48 + n % 10) ∷ []
 
--- black, blue, green, cyan, red, magenta, brown and grey, in the order of terminals: there red is 1 and blue
--- is 4
-abbrev pub colour_order : List ℕ
-colour_order = 0 ∷ 4 ∷ 2 ∷ 6 ∷ 1 ∷ 5 ∷ 3 ∷ 7 ∷ []
+-- black, blue, green, cyan, red, magenta, brown and grey, and the same bright, among a terminal's own sixteen: there
+-- red is 1 and blue is 4
+abbrev pub own_numbers : List ℕ
+own_numbers = 0 ∷ 4 ∷ 2 ∷ 6 ∷ 1 ∷ 5 ∷ 3 ∷ 7 ∷ 8 ∷ 12 ∷ 10 ∷ 14 ∷ 9 ∷ 13 ∷ 11 ∷ 15 ∷ []
 
--- the numbers that set the colours of an attribute
-abbrev pub front_number : ℕ → ℕ
-front_number attr = (if attr / 8 % 2 == 0 then 30 else 90) + slice_index colour_order (attr % 8)
+-- and those of the 240 fixed ones that are nearest to them. Index 16 + 36 r + 6 g + b has the levels 0, 95, 135,
+-- 175, 215 and 255, and 232 + k is the grey 8 + 10 k. So 95 stands for 85 and 175 for 170, but for two greys, to
+-- which 88 and 168 are nearer
+abbrev pub fixed_indices : List ℕ
+fixed_indices =
+    16 ∷ 19 ∷ 34 ∷ 37 ∷ 124 ∷ 127 ∷ 130 ∷ 248 ∷ 240 ∷ 63 ∷ 83 ∷ 87 ∷ 203 ∷ 207 ∷ 227 ∷ 231 ∷ []
 
-abbrev pub back_number : ℕ → ℕ
-back_number attr = (if attr / 128 == 0 then 40 else 100) + slice_index colour_order (attr / 16 % 8)
+-- what a terminal shows for one of the sixteen
+abbrev pub colour_of : Colours → ℕ → Colour
+colour_of Sixteen n = Own (slice_index own_numbers n)
+colour_of Indexed n = Fixed (slice_index fixed_indices n)
+
+-- the low four bits of an attribute are its front, the others the ground behind
+abbrev pub front_of : Colours → (attr : ℕ) → Colour
+front_of colours attr = colour_of colours (attr % 16)
+
+abbrev pub back_of : Colours → (attr : ℕ) → Colour
+back_of colours attr = colour_of colours (attr / 16)
+
+-- what sets one of the sixteen: from 30 on for the front, and from 40 on for the ground
+abbrev pub own_parameter : (first own : ℕ) → ℕ
+own_parameter first own = if nat_lt own 8 then first + own else first + 52 + own
+
+abbrev pub parameters : Colours → (first n : ℕ) → List ℕ
+parameters Sixteen first n = number_bytes (own_parameter first (slice_index own_numbers n))
+parameters Indexed first n =
+    number_bytes (first + 8) ++ 59 ∷ 53 ∷ 59 ∷ number_bytes (slice_index fixed_indices n)
+
+abbrev pub front_bytes : Colours → (attr : ℕ) → List ℕ
+front_bytes colours attr = parameters colours 30 (attr % 16)
+
+abbrev pub back_bytes : Colours → (attr : ℕ) → List ℕ
+back_bytes colours attr = parameters colours 40 (attr / 16)
 
 -- ---- sequences
 
@@ -38,14 +68,14 @@ place_bytes column row = 27 ∷ 91 ∷ number_bytes (row + 1) ++ 59 ∷ number_b
 abbrev pub right_bytes : ℕ → List ℕ
 right_bytes n = 27 ∷ 91 ∷ number_bytes n ++ 67 ∷ []
 
--- one of the colours becomes that of a number
-abbrev pub one_colour_bytes : ℕ → List ℕ
-one_colour_bytes number = 27 ∷ 91 ∷ number_bytes number ++ 109 ∷ []
+-- one of the colours is set
+abbrev pub one_colour_bytes : List ℕ → List ℕ
+one_colour_bytes parameters = 27 ∷ 91 ∷ parameters ++ 109 ∷ []
 
 -- the colours become those of an attribute
-abbrev pub colour_bytes : ℕ → List ℕ
-colour_bytes attr =
-    27 ∷ 91 ∷ number_bytes (front_number attr) ++ 59 ∷ number_bytes (back_number attr) ++ 109 ∷ []
+abbrev pub colour_bytes : Colours → (attr : ℕ) → List ℕ
+colour_bytes colours attr =
+    27 ∷ 91 ∷ front_bytes colours attr ++ 59 ∷ back_bytes colours attr ++ 109 ∷ []
 
 -- ---- cells
 
@@ -58,19 +88,19 @@ going (Some p) column row =
     else place_bytes column row
 
 -- nor for colours that are set
-abbrev pub recolouring : (set attr : ℕ) (is_front_set is_back_set : Bool) → List ℕ
-recolouring set attr true true = []
-recolouring set attr true false = one_colour_bytes (back_number attr)
-recolouring set attr false true = one_colour_bytes (front_number attr)
-recolouring set attr false false = colour_bytes attr
+abbrev pub recolouring : Colours → (attr : ℕ) (is_front_set is_back_set : Bool) → List ℕ
+recolouring colours attr true true = []
+recolouring colours attr true false = one_colour_bytes (back_bytes colours attr)
+recolouring colours attr false true = one_colour_bytes (front_bytes colours attr)
+recolouring colours attr false false = colour_bytes colours attr
 
-abbrev pub colouring : Option ℕ → ℕ → List ℕ
-colouring None attr = colour_bytes attr
-colouring (Some set) attr =
-    recolouring set attr (front_number set == front_number attr) (back_number set == back_number attr)
+abbrev pub colouring : Colours → Option ℕ → ℕ → List ℕ
+colouring colours None attr = colour_bytes colours attr
+colouring colours (Some set) attr = recolouring colours attr (set % 16 == attr % 16) (set / 16 == attr / 16)
 
-abbrev pub cell_bytes : Option (ℕ × ℕ) → Option ℕ → (column row : ℕ) → Glyph → List ℕ
-cell_bytes place attr column row g = going place column row ++ colouring attr g.attr ++ encode_utf8 g.ch
+abbrev pub cell_bytes : Colours → Option (ℕ × ℕ) → Option ℕ → (column row : ℕ) → Glyph → List ℕ
+cell_bytes colours place attr column row g =
+    going place column row ++ colouring colours attr g.attr ++ encode_utf8 g.ch
 
 -- ---- the cursor
 

@@ -3,9 +3,10 @@
 ghost use Rattle.std.specs.Prelude.{◌≡◌, [], ◌∷◌, ◌++◌, ◌+◌, ◌<◌, ◌≤◌, IfSome, Some};
 ghost use Rattle.arrayvec.specs.ArrayVec.{array_vec_len};
 ghost use Rattle.tv_io.specs.Pen.{Puts, PutsPart};
-ghost use Rattle.tv_terminal.specs.Written.{back_number, cell_bytes, colour_bytes, colouring, cursor_bytes, front_number, going, number_bytes, one_colour_bytes, place_after, place_bytes, recolouring, right_bytes, showing};
+ghost use Rattle.tv_terminal.specs.Written.{cell_bytes, colour_bytes, colouring, cursor_bytes, going, number_bytes, one_colour_bytes, own_parameter, parameters, place_after, place_bytes, recolouring, right_bytes, showing};
 ghost use Rattle.tv_terminal.specs.Displays.{IsPrintable};
 
+use crate::colour::{Colours, fixed_index, own_number};
 use arrayvec::ArrayVec;
 use tv_cells::Cell;
 use tv_io::{Pen, Writer, push_char};
@@ -13,32 +14,37 @@ use tv_io::{Pen, Writer, push_char};
 // How many bytes wait at most until they are written.
 const ROOM: usize = 256;
 
-// The most bytes that a cell takes: two sequences of at most ten, and a character.
-const CELL: usize = 24;
+// The most bytes that a cell takes: a sequence of at most ten, one of at most 22, and a character.
+const CELL: usize = 36;
 
-// The colours of an attribute in the order of terminals.
-const COLOUR_ORDER: [u8; 8] = [0, 4, 2, 6, 1, 5, 3, 7];
+// From where on numbers set the colour of characters, and that of the ground behind them.
+const FRONT: u32 = 30;
+
+const BACK: u32 = 40;
 
 /// Bytes that wait to be written, and what is known of the terminal once it is told them: where its cursor stands, and which
-/// attribute's colours it writes in.
+/// attribute's colours it writes in; and by which colours these show.
 #[derive(Drop)]
 pub(crate) struct Hand {
     pub(crate) waiting: ArrayVec<u8, ROOM>,
     pub(crate) place: Option<(u32, u32)>,
     pub(crate) attr: Option<u8>,
+    pub(crate) colours: Colours,
 }
 
 impl Hand {
     /// Makes the hand that knows so much, and has nothing to write.
-    pub(crate) fn new(place: Option<(u32, u32)>, attr: Option<u8>) -> Hand
+    pub(crate) fn new(place: Option<(u32, u32)>, attr: Option<u8>, colours: Colours) -> Hand
         ensures bytes { result.waiting.items ≡ [] }
         ensures place { result.place ≡ place }
         ensures attr { result.attr ≡ attr }
+        ensures colours { result.colours ≡ colours }
     {
         Hand {
             waiting: ArrayVec::new(),
             place,
             attr,
+            colours,
         }
     }
 
@@ -48,6 +54,7 @@ impl Hand {
         ensures bytes { self.new.waiting.items ≡ [] }
         ensures place { self.new.place ≡ self.old.place }
         ensures attr { self.new.attr ≡ self.old.attr }
+        ensures colours { self.new.colours ≡ self.old.colours }
     {
         pen.put(self.waiting.as_slice());
         self.waiting.clear();
@@ -57,9 +64,10 @@ impl Hand {
     pub(crate) fn put<W: Writer>(&mut self, pen: &mut Pen<W>, column: u32, row: u32, cell: Cell)
         requires { (column < 999) × (row < 999) }
         ensures puts { PutsPart W.seen pen.old pen.new self.old.waiting.items
-            (cell_bytes self.old.place self.old.attr column row cell) self.new.waiting.items }
+            (cell_bytes self.old.colours self.old.place self.old.attr column row cell) self.new.waiting.items }
         ensures place { self.new.place ≡ Some (record { 0 = column + 1; 1 = row }) }
         ensures attr { self.new.attr ≡ Some cell.attr }
+        ensures colours { self.new.colours ≡ self.old.colours }
         ensures cell { IsPrintable cell }
     {
         if self.waiting.remaining_capacity() < CELL {
@@ -79,6 +87,7 @@ impl Hand {
         ensures puts { Puts W.seen pen.old pen.new (self.old.waiting.items ++ cursor_bytes self.old.place was_on cursor) }
         ensures place { self.new.place ≡ place_after self.old.place cursor }
         ensures attr { self.new.attr ≡ self.old.attr }
+        ensures colours { self.new.colours ≡ self.old.colours }
     {
         self.flush(pen);
         match cursor {
@@ -94,11 +103,12 @@ impl Hand {
 
     // Adds a cell's bytes to those that wait.
     fn add(&mut self, column: u32, row: u32, cell: Cell)
-        requires room { array_vec_len self.old.waiting + 24 ≤ 256 }
+        requires room { array_vec_len self.old.waiting + 36 ≤ 256 }
         requires small { (column < 999) × (row < 999) }
-        ensures bytes { self.new.waiting.items ≡ self.old.waiting.items ++ cell_bytes self.old.place self.old.attr column row cell }
+        ensures bytes { self.new.waiting.items ≡ self.old.waiting.items ++ cell_bytes self.old.colours self.old.place self.old.attr column row cell }
         ensures place { self.new.place ≡ Some (record { 0 = column + 1; 1 = row }) }
         ensures attr { self.new.attr ≡ Some cell.attr }
+        ensures colours { self.new.colours ≡ self.old.colours }
         ensures cell { IsPrintable cell }
     {
         self.go(column, row);
@@ -114,6 +124,7 @@ impl Hand {
         ensures bytes { self.new.waiting.items ≡ self.old.waiting.items ++ going self.old.place column row }
         ensures few { array_vec_len self.new.waiting ≤ array_vec_len self.old.waiting + 10 }
         ensures attr { self.new.attr ≡ self.old.attr }
+        ensures colours { self.new.colours ≡ self.old.colours }
     {
         match self.place {
             Some((x, y)) if x == column && y == row => {}
@@ -124,15 +135,16 @@ impl Hand {
 
     // Adds what brings the colours of an attribute.
     fn colour(&mut self, attr: u8)
-        requires { array_vec_len self.old.waiting + 10 ≤ 256 }
-        ensures bytes { self.new.waiting.items ≡ self.old.waiting.items ++ colouring self.old.attr attr }
-        ensures few { array_vec_len self.new.waiting ≤ array_vec_len self.old.waiting + 10 }
+        requires { array_vec_len self.old.waiting + 22 ≤ 256 }
+        ensures bytes { self.new.waiting.items ≡ self.old.waiting.items ++ colouring self.old.colours self.old.attr attr }
+        ensures few { array_vec_len self.new.waiting ≤ array_vec_len self.old.waiting + 22 }
         ensures attr { self.new.attr ≡ Some attr }
+        ensures colours { self.new.colours ≡ self.old.colours }
     {
         match self.attr {
             Some(set) if set == attr => {}
-            Some(set) => push_changed(&mut self.waiting, set, attr),
-            None => push_colours(&mut self.waiting, attr),
+            Some(set) => push_changed(&mut self.waiting, self.colours, set, attr),
+            None => push_colours(&mut self.waiting, self.colours, attr),
         }
         self.attr = Some(attr);
     }
@@ -178,61 +190,74 @@ fn push_right(bytes: &mut ArrayVec<u8, ROOM>, columns: u32)
 }
 
 // Adds what brings the colours of an attribute where those of another are set.
-fn push_changed(bytes: &mut ArrayVec<u8, ROOM>, set: u8, attr: u8)
-    requires room { array_vec_len bytes.old + 10 ≤ 256 }
-    ensures bytes { bytes.new.items ≡ bytes.old.items ++ colouring (Some set) attr }
-    ensures few { array_vec_len bytes.new ≤ array_vec_len bytes.old + 10 }
+fn push_changed(bytes: &mut ArrayVec<u8, ROOM>, colours: Colours, set: u8, attr: u8)
+    requires room { array_vec_len bytes.old + 22 ≤ 256 }
+    ensures bytes { bytes.new.items ≡ bytes.old.items ++ colouring colours (Some set) attr }
+    ensures few { array_vec_len bytes.new ≤ array_vec_len bytes.old + 22 }
 {
-    let (front, back) = (front_number(attr), back_number(attr));
-    match (front_number(set) == front, back_number(set) == back) {
+    match (set % 16 == attr % 16, set / 16 == attr / 16) {
         (true, true) => {}
-        (true, false) => push_colour(bytes, back),
-        (false, true) => push_colour(bytes, front),
-        (false, false) => push_colours(bytes, attr),
+        (true, false) => push_colour(bytes, colours, BACK, attr / 16),
+        (false, true) => push_colour(bytes, colours, FRONT, attr % 16),
+        (false, false) => push_colours(bytes, colours, attr),
     }
 }
 
-fn push_colour(bytes: &mut ArrayVec<u8, ROOM>, number: u32)
-    requires room { array_vec_len bytes.old + 10 ≤ 256 }
-    requires small { number < 1000 }
-    ensures bytes { bytes.new.items ≡ bytes.old.items ++ one_colour_bytes number }
-    ensures few { array_vec_len bytes.new ≤ array_vec_len bytes.old + 10 }
+fn push_colour(bytes: &mut ArrayVec<u8, ROOM>, colours: Colours, first: u32, colour: u8)
+    requires room { array_vec_len bytes.old + 22 ≤ 256 }
+    requires small { (first < 100) × (colour < 16) }
+    ensures bytes { bytes.new.items ≡ bytes.old.items ++ one_colour_bytes (parameters colours first colour) }
+    ensures few { array_vec_len bytes.new ≤ array_vec_len bytes.old + 22 }
 {
     bytes.push(b'\x1b');
     bytes.push(b'[');
-    push_number(bytes, number);
+    push_parameters(bytes, colours, first, colour);
     bytes.push(b'm');
 }
 
-fn push_colours(bytes: &mut ArrayVec<u8, ROOM>, attr: u8)
-    requires room { array_vec_len bytes.old + 10 ≤ 256 }
-    ensures bytes { bytes.new.items ≡ bytes.old.items ++ colour_bytes attr }
-    ensures few { array_vec_len bytes.new ≤ array_vec_len bytes.old + 10 }
+fn push_colours(bytes: &mut ArrayVec<u8, ROOM>, colours: Colours, attr: u8)
+    requires room { array_vec_len bytes.old + 22 ≤ 256 }
+    ensures bytes { bytes.new.items ≡ bytes.old.items ++ colour_bytes colours attr }
+    ensures few { array_vec_len bytes.new ≤ array_vec_len bytes.old + 22 }
 {
     bytes.push(b'\x1b');
     bytes.push(b'[');
-    push_number(bytes, front_number(attr));
+    push_parameters(bytes, colours, FRONT, attr % 16);
     bytes.push(b';');
-    push_number(bytes, back_number(attr));
+    push_parameters(bytes, colours, BACK, attr / 16);
     bytes.push(b'm');
 }
 
-// The number that sets the colour of characters, by the low four bits of an attribute.
-fn front_number(attr: u8) -> u32
-    ensures value { result ≡ front_number attr }
-    ensures few { result < 1000 }
+// Adds what sets one of the sixteen colours.
+fn push_parameters(bytes: &mut ArrayVec<u8, ROOM>, colours: Colours, first: u32, colour: u8)
+    requires room { array_vec_len bytes.old + 9 ≤ 256 }
+    requires small { (first < 100) × (colour < 16) }
+    ensures bytes { bytes.new.items ≡ bytes.old.items ++ parameters colours first colour }
+    ensures few { array_vec_len bytes.new ≤ array_vec_len bytes.old + 9 }
 {
-    let first = if attr / 8 % 2 == 0 { 30 } else { 90 };
-    first + u32::from(COLOUR_ORDER[usize::from(attr % 8)])
+    match colours {
+        Colours::Sixteen => push_number(bytes, own_parameter(first, own_number(colour))),
+        Colours::Indexed => {
+            push_number(bytes, first + 8);
+            bytes.push(b';');
+            bytes.push(b'5');
+            bytes.push(b';');
+            push_number(bytes, fixed_index(colour));
+        }
+    }
 }
 
-// The number that sets the colour behind them, by the high four bits.
-fn back_number(attr: u8) -> u32
-    ensures value { result ≡ back_number attr }
+// The number of `m` that sets one of a terminal's own colours, of which the bright ones stand apart.
+fn own_parameter(first: u32, own: u32) -> u32
+    requires small { (first < 100) × (own < 16) }
+    ensures value { result ≡ own_parameter first own }
     ensures few { result < 1000 }
 {
-    let first = if attr / 128 == 0 { 40 } else { 100 };
-    first + u32::from(COLOUR_ORDER[usize::from(attr / 16 % 8)])
+    if own < 8 {
+        first + own
+    } else {
+        first + 52 + own
+    }
 }
 
 // Adds the digits of a number.

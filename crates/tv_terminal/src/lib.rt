@@ -19,6 +19,7 @@ mod table;
 
 pub use action::Action;
 pub use bell::ring;
+pub use colour::Colours;
 pub use decoder::Decoder;
 pub use painter::Painter;
 pub use svg::{strips_are_rows, write_svg};

@@ -10,6 +10,7 @@ ghost use Rattle.tv_terminal.specs.Written.{cursor_on, end_bytes};
 ghost use Rattle.tv_terminal.specs.Terminal.{Covered, Display, ground, told};
 ghost use Rattle.tv_terminal.specs.Writing.{BeginsScreen, Draws, Paints, restored};
 
+use crate::colour::Colours;
 use crate::hand::Hand;
 use crate::span::{on_screen, visible};
 use std::alloc::Global;
@@ -25,6 +26,8 @@ pub struct Painter {
     place: Option<(u32, u32)>,
     attr: Option<u8>,
     has_cursor: Option<bool>,
+    // Which colours of the terminal are those of the screens.
+    colours: Colours,
 }
 
 impl Painter {
@@ -33,9 +36,15 @@ impl Painter {
     /// # Errors
     ///
     /// `BadSize` unless there are 20 to 132 columns and 10 to 60 rows, else `NoMemory` where there is none for the cells.
-    pub fn new(alloc: Global, width: u32, height: u32) -> Result<Painter, ScreenFault>
+    pub fn new(
+        alloc: Global,
+        width: u32,
+        height: u32,
+        colours: Colours,
+    ) -> Result<Painter, ScreenFault>
         ensures size { IfOk result (λ painter. (painter.shown.width ≡ width) × (painter.shown.height ≡ height)) }
         ensures unknown { IfOk result (λ painter. painter.is_known ≡ false) }
+        ensures colours { IfOk result (λ painter. painter.colours ≡ colours) }
         ensures bad { IsErrOf result ScreenFault.BadSize ↔ (IsScreenSize width height → ⊥) }
     {
         match Screen::new(alloc, width, height) {
@@ -45,6 +54,7 @@ impl Painter {
                 place: None,
                 attr: None,
                 has_cursor: None,
+                colours,
             }),
             Err(fault) => Err(fault),
         }
@@ -83,7 +93,7 @@ impl Painter {
         ensures { Paints W.seen (λ column row. has_cell rects.now column row ≡ true) screen.now
             (cursor_on screen.now.width screen.now.height cursor) self.old self.new pen.old pen.new }
     {
-        let mut hand = Hand::new(self.place, self.attr);
+        let mut hand = Hand::new(self.place, self.attr, self.colours);
         let was_on = self.has_cursor;
         self.paint_rects(&mut hand, pen, screen, rects);
         let cursor = on_screen(screen.width(), screen.height(), cursor);
@@ -100,6 +110,7 @@ impl Painter {
         ensures told { (d : Display) (c : Covered) → d.covered ≡ Some c → told (ground d) end_bytes ≡ ground (restored c d) }
         ensures shown { self.new.shown ≡ self.old.shown }
         ensures unknown { self.new.is_known ≡ false }
+        ensures colours { self.new.colours ≡ self.old.colours }
     {
         self.forget();
         pen.put(
@@ -114,6 +125,7 @@ impl Painter {
         ensures nowhere { self.new.place ≡ None }
         ensures plain { self.new.attr ≡ None }
         ensures cursor { self.new.has_cursor ≡ None }
+        ensures colours { self.new.colours ≡ self.old.colours }
     {
         self.is_known = false;
         self.place = None;
@@ -127,6 +139,7 @@ impl Painter {
         requires small { (column < 999) × (row < 999) }
         ensures shown { Changes (IsPlace column row) (λ _ _ _. cell) self.old.shown self.new.shown }
         ensures known { self.new.is_known ≡ self.old.is_known }
+        ensures colours { self.new.colours ≡ self.old.colours }
     {
         let canvas = self.shown.canvas();
         canvas.put(&mut self.shown, column as i32, row as i32, cell);

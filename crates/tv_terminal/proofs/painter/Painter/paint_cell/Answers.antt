@@ -4,8 +4,8 @@ use Rattle.tv_terminal.proofs.painter.Painter.paint_cell.Goals as goal
 
 pub returns-then-not-self : goal.returns-then-not-self
 returns-then-not-self g c =
-    draws-cell c.args.screen.now c.args.self.now c.take.new.self c.args.column c.args.row c.get-cell.result c.requires.place c.get-cell.ensures c.take.ensures.shown c.take.ensures.known
-    c.requires.small c.put.ensures.cell c.put.ensures.puts c.put.ensures.place c.put.ensures.attr
+    draws-cell c.args.screen.now c.args.self.now c.take.new.self c.args.column c.args.row c.get-cell.result c.requires.place c.get-cell.ensures c.take.ensures.shown c.take.ensures.known c.take.ensures.colours
+    c.requires.small c.put.ensures.cell c.put.ensures.puts c.put.ensures.place c.put.ensures.attr c.put.ensures.colours
 
 pub returns-else-ne : goal.returns-else-ne
 returns-else-ne g c =
