@@ -15,3 +15,4 @@ pub mod ScriptLineLemmas
 pub mod SizeLemmas
 pub mod StreamLemmas
 pub mod TakeLemmas
+pub mod TapeLemmas

@@ -295,3 +295,19 @@ module _ (width height : ℤ) where
   gives (Err (Syntax line)) text script value fault spelled = not_refused text script (Syntax line) spelled fault
   gives (Err (OffScreen line)) text script value fault spelled = not_refused text script (OffScreen line) spelled fault
   gives (Err TooLong) text script value fault spelled = not_refused text script TooLong spelled fault
+
+  judged_by : (text : List ℕ) (items : List Item) (answer : Result (Unit {0}) ScriptFault) → (judged_whole width height text).answer ≡ answer → SpellsAScript width height text items → judged_as width height text ≡ judgement items (Ok tt)
+  judged_by text items (Err fault) e spelled = absurd (not_refused text items fault spelled e)
+  judged_by text items (Ok done) e spelled =
+      let short : is_short text ≡ true = grind (arith, nat_tests, spelled.short) in
+      let j = judged_lines width height (lines_of text) in
+      let whole : judged_whole width height text ≡ j = rw short refl in
+      let read : j.answer ≡ Ok tt = ap (λ x. x.answer) (sym whole) ∙ e in
+      let found : judged_whole width height text ≡ judgement j.items (Ok tt) = whole ∙ ap (judgement j.items) read in
+      let same : j.items ≡ items = same_script text j.items items (whole_spelled text j.items found) spelled in
+      let part : judged_part text ≡ text = rw short refl in
+      rw (short, read, same) refl
+
+  -- a text that spells a script is judged as that
+  pub spelled_judged : (text : List ℕ) (items : List Item) → SpellsAScript width height text items → judged_as width height text ≡ judgement items (Ok tt)
+  spelled_judged text items spelled = judged_by text items (judged_whole width height text).answer refl spelled

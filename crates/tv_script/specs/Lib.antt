@@ -18,3 +18,5 @@ pub mod Spelled
 pub mod Streams
 -- What is shown of a screen
 pub mod ScreenText
+-- Events, as the lines of a script
+pub mod Tapes

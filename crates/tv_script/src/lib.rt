@@ -12,6 +12,7 @@ mod shot;
 mod stage;
 mod stream_fault;
 mod streaming;
+mod tape;
 
 pub use performing::{perform, put_waiting_log};
 pub use script::Script;
@@ -19,3 +20,4 @@ pub use script_text::{ScriptFault, parse_items};
 pub use stage::Stage;
 pub use stream_fault::StreamFault;
 pub use streaming::{cuts_decide_nothing, judgements_are_right, perform_from};
+pub use tape::{put_event_line, tapes_are_scripts};

@@ -125,8 +125,8 @@ fn put_value<W: Writer>(pen: &mut Pen<W>, value: &Value)
     }
 }
 
-// Writes a quoted text, in which `"` and `\` are escaped.
-fn put_quoted<W: Writer>(pen: &mut Pen<W>, text: &[char])
+/// Writes a quoted text, in which `"` and `\` are escaped.
+pub(crate) fn put_quoted<W: Writer>(pen: &mut Pen<W>, text: &[char])
     ensures { Puts W.seen pen.old pen.new (quoted_text text.now) }
 {
     pen.put(b"\"");
