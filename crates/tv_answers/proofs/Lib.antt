@@ -2,8 +2,12 @@ pub mod EntryLemmas
 pub mod FillingLemmas
 pub mod LineLemmas
 pub mod MarkLemmas
+pub mod MarkedLemmas
+pub mod KeptLemmas
+pub mod BegunLemmas
 pub mod ReadLemmas
 pub mod SpelledLemmas
 pub mod StandLemmas
 pub mod ValueLemmas
+pub mod OpeningLemmas
 pub mod Examples

@@ -109,7 +109,7 @@ stands_kind (kinds.List list) (values.Item item) x y w n stand =
     (others_stand first (Bare (codes "start") ∷ number_word list.start ∷ []) (Bare (codes "start") ∷ number_word (pos item) ∷ []) stand.0 (choice_stands (pos item) n), refl)
 stands_kind _ _ x y w n stand = stand
 
-same_pane : (k : Kind) (v : Value) → is_pane (with_start k v) ≡ is_pane k
+pub same_pane : (k : Kind) (v : Value) → is_pane (with_start k v) ≡ is_pane k
 same_pane (kinds.Input input) (values.Text text) = refl
 same_pane (kinds.CheckBoxes boxes) (values.Marks marks) = refl
 same_pane (kinds.RadioButtons radios) (values.Item item) = refl
