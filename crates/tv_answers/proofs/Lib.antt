@@ -10,4 +10,10 @@ pub mod SpelledLemmas
 pub mod StandLemmas
 pub mod ValueLemmas
 pub mod OpeningLemmas
+pub mod LogTextLemmas
+pub mod ValueReadLemmas
+pub mod LogNameLemmas
+pub mod PutLemmas
+pub mod LogReadLemmas
+pub mod EndReadLemmas
 pub mod Examples

@@ -31,10 +31,10 @@ use Rattle.tv_answers.proofs.SpelledLemmas.{same_pane}
 
 -- ---- views by their ids
 
-abbrev view_id : Node → Id
+abbrev pub view_id : Node → Id
 view_id view = view.id
 
-apart : (views : List Node) → AreRising views → AreApart (map view_id views)
+pub apart : (views : List Node) → AreRising views → AreApart (map view_id views)
 apart [] rising = tt
 apart (view ∷ views) rising = (
   fails-absent view_id views view.id

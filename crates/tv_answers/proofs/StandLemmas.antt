@@ -21,7 +21,7 @@ use Rattle.tv_answers.specs.Filling.{IsSpelledText}
 -- ---- numbers
 
 -- from `-` to `z`
-abbrev is_common : ℕ → Bool
+abbrev pub is_common : ℕ → Bool
 is_common c = nat_le 45 c && nat_le c 122
 
 common : (c : ℕ) → IsInRange 48 57 c → is_common c ≡ true
@@ -37,7 +37,7 @@ all_chars : (p : ℕ → Bool) → ((c : ℕ) → is_common c ≡ true → p c �
 all_chars p f [] e = refl
 all_chars p f (c ∷ cs) e = let h = and_parts (is_common c) (list_all is_common cs) e in rw (f c h.0, all_chars p f cs h.1) refl
 
-common_stands : (cs : List ℕ) → cs ≢ [] → list_all is_common cs ≡ true → Stands (Bare cs)
+pub common_stands : (cs : List ℕ) → cs ≢ [] → list_all is_common cs ≡ true → Stands (Bare cs)
 common_stands cs some e = ((some, all_chars is_bare bare_char cs e), all_chars is_plain plain_char cs e)
 
 own : IsNumeralModel (AllDigits 10) (digits_value 10)

@@ -1,7 +1,8 @@
 //! What answers and logs come to, as contracts.
 
-ghost use Rattle.tv_answers.specs.Laws.{OpenAsAnswered};
+ghost use Rattle.tv_answers.specs.Laws.{EndsAreRead, OpenAsAnswered};
 ghost use Rattle.tv_lang.specs.CanonicalDescription.{CanBeSpelled};
+ghost use Rattle.tv_model.specs.Faults.{IsSound};
 
 use tv_model::Desc;
 
@@ -10,4 +11,12 @@ use tv_model::Desc;
 pub fn opens_as_answered(_desc: &Desc, _text: &[u8])
     requires spelled { CanBeSpelled _desc.now }
     ensures { OpenAsAnswered _desc.now _text.now }
+{}
+
+/// A theorem, as a function without a body: what a dialog of a sound description that a text can spell logs of its end
+/// answers just what that end saves.
+pub fn ends_are_read(_desc: &Desc)
+    requires spelled { CanBeSpelled _desc.now }
+    requires sound { IsSound _desc.now }
+    ensures { EndsAreRead _desc.now }
 {}
