@@ -4,6 +4,7 @@ use Rattle.std.specs.List.{concat}
 use Rattle.std.proofs.lemmas.List.{append-nil, length-map, length-take-le}
 use Rattle.std.proofs.lemmas.List.Elements.{All-nil}
 use Rattle.tv_terminal.specs.Written.{end_bytes}
+use Rattle.tv_terminal.specs.declared.colour.Colours.{Colours}
 use Rattle.tv_terminal.specs.declared.painter.Painter.{Painter}
 use Rattle.std.specs.Prelude.{MatchResult}
 use Rattle.tv_io.specs.Pen.{PutsBy}
@@ -59,7 +60,7 @@ log-first-cut {a} {b} s p = subst (Cuts a b) (sym (append-nil (log_text s.desc s
 -- a run that was begun: it ended before anything was read, or it goes on
 pub first-turns : (s : Session) (from now : Outside) (Left : Session → Type 0) (answer : Bool) → answer ≡ is_finished s → (written : Result (Unit {0}) WriteFailed) (stop : Bool) → now.stopped ≡ stop
     → MatchResult written (λ _. Takes from.log now.log (log_text s.desc s.state.log)) (λ _. Cuts from.log now.log (log_text s.desc s.state.log))
-    → HasBeenShown s [] from.screen now.screen now.stopped now.painter → Left (quiet s) → TurnsTo s [] from now Left (outcome_of answer written stop)
+    → HasBeenShown from.painter.colours s [] from.screen now.screen now.stopped now.painter → Left (quiet s) → TurnsTo s [] from now Left (outcome_of answer written stop)
 first-turns s from now Left answer is (Err failed) stop same cut shown left = record { actions = []; rest = []; heard = heard-none s; shown = shown; left = left; ended = log-first-cut s cut }
 first-turns s from now Left answer is (Ok written) true same takes shown left = record { actions = []; rest = []; heard = heard-none s; shown = shown; left = left; ended = (log-first s takes, same) }
 first-turns s from now Left true is (Ok written) false same takes shown left = record { actions = []; rest = []; heard = heard-none s; shown = shown; left = left; ended = (sym is, log-first s takes, same) }
@@ -74,8 +75,8 @@ first-turns s from now Left false is (Ok written) false same takes shown left = 
 
 -- ---- the loop
 
-shown-still : (s : Session) (actions : List Action) (from screen screen' : Seen) (stop stop' : Bool) (painter : Painter) → HasBeenShown s actions from screen stop painter → PutsBy screen stop screen' stop' [] → HasBeenShown s actions from screen' stop' painter
-shown-still s actions from screen screen' stop stop' painter shown put = record { frames = shown.frames; shows = shown.shows; put = put-still from screen screen' stop stop' (concat shown.frames) shown.put put; taken = shown.taken; right = shown.right }
+shown-still : {colours : Colours} (s : Session) (actions : List Action) (from screen screen' : Seen) (stop stop' : Bool) (painter : Painter) → HasBeenShown colours s actions from screen stop painter → PutsBy screen stop screen' stop' [] → HasBeenShown colours s actions from screen' stop' painter
+shown-still s actions from screen screen' stop stop' painter shown put = record { frames = shown.frames; same = shown.same; shows = shown.shows; put = put-still from screen screen' stop stop' (concat shown.frames) shown.put put; taken = shown.taken; right = shown.right }
 
 -- what was written is passed on
 pub passed-on : {a b c : Seen} (text : List ℕ) → Takes a b text → IsPassedOn b c → Takes a c text
@@ -249,7 +250,7 @@ module _ (s : Session) (input left : Heard) (from now : Outside) (last : Seen) (
   abbrev pub ended : Seen → Ports
   ended log = record { input = left; log = log; screen = last }
 
-  pub plays-parted : (log : Seen) (parting : Parting) (passed : Result (Unit {0}) WriteFailed) (result : Result Parting PlayFault) → result ≡ told_with parting passed stop → HasRun s input left from now Left (Ok parting) → PassesOn now.log log passed → Plays s begun (ended log) Left result
+  pub plays-parted : (log : Seen) (parting : Parting) (passed : Result (Unit {0}) WriteFailed) (result : Result Parting PlayFault) → result ≡ told_with parting passed stop → HasRun s input left from now Left (Ok parting) → PassesOn now.log log passed → Plays from.painter.colours s begun (ended log) Left result
   plays-parted log parting passed result is run passes = record {
     symbols = run.symbols;
     actions = run.actions;
@@ -263,7 +264,7 @@ module _ (s : Session) (input left : Heard) (from now : Outside) (last : Seen) (
         (comes-parted s run.symbols run.actions run.rest input left from now last (concat run.shown.frames ++ end_bytes) stop (put run.shown.frames run.shown.put) none log parting passed run.came passes);
   }
 
-  pub plays-broken : (fault : PlayFault) → HasRun s input left from now Left (Err fault) → Plays s begun (ended now.log) Left (Err fault)
+  pub plays-broken : (fault : PlayFault) → HasRun s input left from now Left (Err fault) → Plays from.painter.colours s begun (ended now.log) Left (Err fault)
   plays-broken fault run = record {
     symbols = run.symbols;
     actions = run.actions;
@@ -277,17 +278,17 @@ module _ (s : Session) (input left : Heard) (from now : Outside) (last : Seen) (
   }
 
 -- what was played, as it stands once what was lent is back
-plays-told : (s : Session) (first last : Ports) (Left : Session → Type 0) (result : Result Parting PlayFault) → Plays s first last Left result → PlaysTo s first last Left result
-plays-told s first last Left (Ok parting) p = p
-plays-told s first last Left (Err faults.NoMemory) p = absurd p.comes
-plays-told s first last Left (Err faults.Read) p = p
-plays-told s first last Left (Err faults.Log) p = p
-plays-told s first last Left (Err faults.Screen) p = p
+plays-told : (colours : Colours) (s : Session) (first last : Ports) (Left : Session → Type 0) (result : Result Parting PlayFault) → Plays colours s first last Left result → PlaysTo colours s first last Left result
+plays-told colours s first last Left (Ok parting) p = p
+plays-told colours s first last Left (Err faults.NoMemory) p = absurd p.comes
+plays-told colours s first last Left (Err faults.Read) p = p
+plays-told colours s first last Left (Err faults.Log) p = p
+plays-told colours s first last Left (Err faults.Screen) p = p
 
-pub plays-lent : {L : Type 0} (stands : L → Session → Type 0) (stage stage' : L) (s : Session) (old : Ports) (input : Heard) (log log' screen screen' : Seen) (result : Result Parting PlayFault) → stage ≡ stage' → log ≡ log' → screen ≡ screen' → Plays s old (record { input = input; log = log; screen = screen }) (stands stage) result
-    → PlaysTo s old (record { input = input; log = log'; screen = screen' }) (stands stage') result
-plays-lent {L} stands stage stage' s old input log log' screen screen' result one same alike p =
-    plays-told s old (record { input = input; log = log'; screen = screen' }) (stands stage') result
-    (subst (λ (x : L). Plays s old (record { input = input; log = log'; screen = screen' }) (stands x) result) one
-    (subst (λ (x : Seen). Plays s old (record { input = input; log = log'; screen = x }) (stands stage) result) alike
-    (subst (λ (x : Seen). Plays s old (record { input = input; log = x; screen = screen }) (stands stage) result) same p)))
+pub plays-lent : {L : Type 0} {colours : Colours} (stands : L → Session → Type 0) (stage stage' : L) (s : Session) (old : Ports) (input : Heard) (log log' screen screen' : Seen) (result : Result Parting PlayFault) → stage ≡ stage' → log ≡ log' → screen ≡ screen' → Plays colours s old (record { input = input; log = log; screen = screen }) (stands stage) result
+    → PlaysTo colours s old (record { input = input; log = log'; screen = screen' }) (stands stage') result
+plays-lent {L} {colours} stands stage stage' s old input log log' screen screen' result one same alike p =
+    plays-told colours s old (record { input = input; log = log'; screen = screen' }) (stands stage') result
+    (subst (λ (x : L). Plays colours s old (record { input = input; log = log'; screen = screen' }) (stands x) result) one
+    (subst (λ (x : Seen). Plays colours s old (record { input = input; log = log'; screen = x }) (stands stage) result) alike
+    (subst (λ (x : Seen). Plays colours s old (record { input = input; log = x; screen = screen }) (stands stage) result) same p)))

@@ -11,6 +11,7 @@ use Rattle.tv_terminal.specs.Terminal.{Covered, Display, ground, kept_of, rung, 
 use Rattle.tv_terminal.specs.Writing.{Begun, IsRight, Painted, Paints, BeginsScreen, restored}
 use Rattle.tv_terminal.specs.declared.action.Action.{Action}
 use Rattle.tv_terminal.specs.declared.action.Action.TheVariants as variants
+use Rattle.tv_terminal.specs.declared.colour.Colours.{Colours}
 use Rattle.tv_terminal.specs.declared.painter.Painter.{Painter}
 use Rattle.tv_terminal.proofs.DrawLemmas.{tells-as, tells-both, tells-then}
 use Rattle.tv_terminal.proofs.PaintLemmas.{told-end}
@@ -64,7 +65,7 @@ RightFrom s actions frames painter =
 
 -- an action more, and a frame that a terminal shows that showed the last one, and any terminal where it paints
 -- the whole screen
-module _ (s : Session) (actions : List Action) (a : Action) (old new : Painter) (frames : List (List ℕ)) (b : List ℕ) (shows : ShowsEach s actions frames) (right : RightFrom s actions frames old) where
+module _ (colours : Colours) (s : Session) (actions : List Action) (a : Action) (old new : Painter) (frames : List (List ℕ)) (b : List ℕ) (shows : ShowsEach colours s actions frames) (right : RightFrom s actions frames old) where
   abbrev n : ℕ
   n = length actions
 
@@ -75,11 +76,11 @@ module _ (s : Session) (actions : List Action) (a : Action) (old new : Painter) 
   longer = frames ++ b ∷ []
 
   abbrev Next : (j : ℕ) → Display → Display → Type 0
-  Next j d g = ShowsFrames s more j (n + 1) d g × IsRight new g
+  Next j d g = ShowsFrames colours s more j (n + 1) d g × IsRight new g
 
-  module _ (next : (d f : Display) → HasRoom s d → (j : ℕ) → j ≤ n → ShowsFrames s actions j n d f → IsRight old f → Becomes b f (Next j d))
+  module _ (next : (d f : Display) → HasRoom s d → (j : ℕ) → j ≤ n → ShowsFrames colours s actions j n d f → IsRight old f → Becomes b f (Next j d))
       (fresh : is_refreshing s.desc a ≡ true → (d : Display) → HasRoom s d → Becomes b d (Next (n + 1) d)) where
-    shows-last : (d : Display) → HasRoom s d → (j : ℕ) → is_whole s.desc actions j ≡ true → j ≤ n → Becomes (concat (drop j frames)) d (ShowsFrames s actions j n d)
+    shows-last : (d : Display) → HasRoom s d → (j : ℕ) → is_whole s.desc actions j ≡ true → j ≤ n → Becomes (concat (drop j frames)) d (ShowsFrames colours s actions j n d)
     shows-last d room j whole le =
         let all : take (n + 1) frames ≡ frames = take_all (n + 1) frames (omega (arith, shows.count)) in
         rw all at (shows.each d room j n whole le (omega arith))
@@ -102,13 +103,13 @@ module _ (s : Session) (actions : List Action) (a : Action) (old new : Painter) 
         let last : n + 1 ≡ j = omega arith in
         subst (λ x. Becomes (concat (drop x longer)) d (Next x d)) last (from-here (sym (whole-last s.desc actions a) ∙ ap (is_whole s.desc more) last ∙ whole) d room)
 
-    frames-before : (j k : ℕ) → j ≤ n → k ≤ n → (d e : Display) → ShowsFrames s actions j k d e → ShowsFrames s more j k d e
+    frames-before : (j k : ℕ) → j ≤ n → k ≤ n → (d e : Display) → ShowsFrames colours s actions j k d e → ShowsFrames colours s more j k d e
     frames-before j k few less d e law =
         let first : take j more ≡ take j actions = take-append-le j actions (a ∷ []) few in
         let last : take k more ≡ take k actions = take-append-le k actions (a ∷ []) less in
         record { shows = rw last law.shows; bells = rw (first, last) law.bells }
 
-    shows-at : (d : Display) → HasRoom s d → (j k : ℕ) → is_whole s.desc more j ≡ true → j ≤ k → k ≤ n + 1 → (k < n + 1) ⊎ (n + 1 ≤ k) → Becomes (concat (drop j (take (k + 1) longer))) d (ShowsFrames s more j k d)
+    shows-at : (d : Display) → HasRoom s d → (j k : ℕ) → is_whole s.desc more j ≡ true → j ≤ k → k ≤ n + 1 → (k < n + 1) ⊎ (n + 1 ≤ k) → Becomes (concat (drop j (take (k + 1) longer))) d (ShowsFrames colours s more j k d)
     shows-at d room j k whole le most (inl few) =
         let front : take (k + 1) longer ≡ take (k + 1) frames = take-append-le (k + 1) frames (b ∷ []) (omega (arith, shows.count)) in
         rw front
@@ -118,10 +119,10 @@ module _ (s : Session) (actions : List Action) (a : Action) (old new : Painter) 
         let last : n + 1 ≡ k = omega arith in
         let front : take (k + 1) longer ≡ longer = take_all (k + 1) longer (omega (arith, length-append frames (b ∷ []), shows.count)) in
         rw front
-        (subst (λ x. Becomes (concat (drop j longer)) d (ShowsFrames s more j x d)) last
+        (subst (λ x. Becomes (concat (drop j longer)) d (ShowsFrames colours s more j x d)) last
         (tells-as (λ g law. law.0) (from-any d room j whole (omega arith) (cases_lt j (n + 1)))))
 
-    pub shows-more : ShowsEach s more longer
+    pub shows-more : ShowsEach colours s more longer
     shows-more = record {
       count = omega (arith, length-append frames (b ∷ []), length-append actions (a ∷ []), shows.count);
       each = λ d room j k whole le most. shows-at d room j k whole le (omega (arith, length-append actions (a ∷ []))) (cases_lt k (n + 1));
@@ -155,7 +156,7 @@ told-ringing : (r : Bool) (d : Display) → told (ground d) (ringing r) ≡ grou
 told-ringing true d = refl
 told-ringing false d = refl
 
-rung-shows : (t : Session) (r : Bool) (d g : Display) → ShowsSession t d g → ShowsSession t d (rung_if r g)
+rung-shows : {colours : Colours} (t : Session) (r : Bool) (d g : Display) → ShowsSession colours t d g → ShowsSession colours t d (rung_if r g)
 rung-shows t true d g law = record {
   each = law.each;
   cursor = record { shown = law.cursor.shown; hidden = law.cursor.hidden };
@@ -203,14 +204,14 @@ module _ (s : Session) (actions : List Action) (e : Event) (calm : is_refreshing
     cell-now : {column row : ℕ} → IsScreenPlace now column row → cell_at screen column row ≡ screen_cell now column row
     cell-now {column} {row} on = is.cells.each column row (on-picture on)
 
-    module _ {new : Painter} {d f g : Display} (law : ShowsSession before d f) (painted : Painted (λ column row. has_cell rects column row ≡ true) screen (cursor_on screen.width screen.height cursor) new f g) where
-      shown-cell : (column row : ℕ) → IsScreenPlace now column row → (has_cell rects column row ≡ true) ⊎ (has_cell rects column row ≡ false) → g.cells column row ≡ tile_of (screen_cell now column row)
-      shown-cell column row on (inl here) = painted.drawn.shows.inside column row (on-picture on) here ∙ ap tile_of (cell-now on)
+    module _ {new : Painter} {d f g : Display} (law : ShowsSession new.colours before d f) (painted : Painted (λ column row. has_cell rects column row ≡ true) screen (cursor_on screen.width screen.height cursor) new f g) where
+      shown-cell : (column row : ℕ) → IsScreenPlace now column row → (has_cell rects column row ≡ true) ⊎ (has_cell rects column row ≡ false) → g.cells column row ≡ tile_of new.colours (screen_cell now column row)
+      shown-cell column row on (inl here) = painted.drawn.shows.inside column row (on-picture on) here ∙ ap (tile_of new.colours) (cell-now on)
       shown-cell column row on (inr apart) =
           painted.drawn.shows.outside column row (both_ways (has_cell rects column row) apart)
-          ∙ law.each column row (same-place on) ∙ ap tile_of (sym (keeps.each column row (same-place on) apart))
+          ∙ law.each column row (same-place on) ∙ ap (tile_of new.colours) (sym (keeps.each column row (same-place on) apart))
 
-      shows-now : ShowsSession now d g
+      shows-now : ShowsSession new.colours now d g
       shows-now = record {
         each = λ column row on. shown-cell column row on (cases_Bool (has_cell rects column row));
         cursor = cursor-shown now screen is cursor finds g painted.points;
@@ -225,7 +226,7 @@ module _ (s : Session) (actions : List Action) (e : Event) (calm : is_refreshing
         lost = painted.drawn.stays.lost ∙ law.lost;
       }
 
-    module _ {W : Type 0} {seen : W → Seen} {old new : Painter} {x z : Pen W} (taken : HasTaken before old) (p : Paints seen (λ column row. has_cell rects column row ≡ true) screen (cursor_on screen.width screen.height cursor) old new x z) where
+    module _ {W : Type 0} {seen : W → Seen} {colours : Colours} {old new : Painter} {x z : Pen W} (still : old.colours ≡ colours) (taken : HasTaken before old) (p : Paints seen (λ column row. has_cell rects column row ≡ true) screen (cursor_on screen.width screen.height cursor) old new x z) where
       taken-cell : (column row : ℕ) → IsOn new.shown column row → (has_cell rects column row ≡ true) ⊎ (has_cell rects column row ≡ false) → cell_at new.shown column row ≡ screen_cell now column row
       taken-cell column row on which =
           let on-old : IsOn old.shown column row = record { across = omega (arith, on.across, p.changes.size.width); down = omega (arith, on.down, p.changes.size.height) } in
@@ -259,10 +260,12 @@ module _ (s : Session) (actions : List Action) (e : Event) (calm : is_refreshing
             let all : refusals_to s actions (length actions) ≡ refusals s (events_in s.desc actions) = ap (λ x. refusals s (events_in s.desc x)) (taken-all s actions) in
             omega (arith, first, last, all, so_far, same, rung-bells r g)
 
-        next-shows : (d f : Display) → HasRoom s d → (j : ℕ) → j ≤ length actions → ShowsFrames s actions j (length actions) d f → IsRight old f
-            → Becomes frame f (λ g. ShowsFrames s (actions ++ variants.Event e ∷ []) j (length actions + 1) d g × IsRight new g)
+        next-shows : (d f : Display) → HasRoom s d → (j : ℕ) → j ≤ length actions → ShowsFrames colours s actions j (length actions) d f → IsRight old f
+            → Becomes frame f (λ g. ShowsFrames colours s (actions ++ variants.Event e ∷ []) j (length actions + 1) d g × IsRight new g)
         next-shows d f room j few law right =
-            let shows : ShowsSession before d f = subst (λ x. ShowsSession (reached s x) d f) (taken-all s actions) law.shows in
+            let held : new.colours ≡ colours = p.colours ∙ still in
+            let shows : ShowsSession colours before d f = subst (λ x. ShowsSession colours (reached s x) d f) (taken-all s actions) law.shows in
+            let shows-new : ShowsSession new.colours before d f = subst (λ (c : Colours). ShowsSession c before d f) (sym held) shows in
             let space : HasSpace old.shown f = record {
               across = omega (arith, room.across, shows.columns, taken.size.width, same-width s actions);
               down = omega (arith, room.down, shows.rows, taken.size.height, same-height s actions);
@@ -272,23 +275,24 @@ module _ (s : Session) (actions : List Action) (e : Event) (calm : is_refreshing
               is = told-ringing r g;
               law = (
                 record {
-                  shows = subst (λ x. ShowsSession x d (rung_if r g))
+                  shows = subst (λ x. ShowsSession colours x d (rung_if r g))
                       (sym (reached-perform s actions e calm) ∙ ap (reached s) (sym (taken-more s actions (variants.Event e))))
-                      (rung-shows now r d g (shows-now shows painted));
+                      (rung-shows now r d g (subst (λ (c : Colours). ShowsSession c now d g) held (shows-now shows-new painted)));
                   bells = rings j few d f g law.bells painted.drawn.stays.bells;
                 },
                 rung-right new r g painted.right,
               );
             })
 
-        pub shown-more : {y : Pen W} (from : Seen) → HasBeenShown s actions from (seen x.out.now) x.stopped old → Puts seen x y frame
-            → HasBeenShown s (actions ++ variants.Event e ∷ []) from (seen y.out.now) y.stopped new
+        pub shown-more : {y : Pen W} (from : Seen) → HasBeenShown colours s actions from (seen x.out.now) x.stopped old → Puts seen x y frame
+            → HasBeenShown colours s (actions ++ variants.Event e ∷ []) from (seen y.out.now) y.stopped new
         shown-more {y} from shown put = record {
           frames = shown.frames ++ frame ∷ [];
-          shows = shows-more s actions (variants.Event e) old new shown.frames frame shown.shows shown.right next-shows (λ asked. absurd (never (is_refreshing s.desc (variants.Event e)) asked calm));
+          same = p.colours ∙ still;
+          shows = shows-more colours s actions (variants.Event e) old new shown.frames frame shown.shows shown.right next-shows (λ asked. absurd (never (is_refreshing s.desc (variants.Event e)) asked calm));
           put = rw (concat-push shown.frames frame) (put-then from (seen x.out.now) (seen y.out.now) x.stopped y.stopped (concat shown.frames) frame shown.put put.how);
           taken = subst (λ u. HasTaken u new) (sym (reached-perform s actions e calm)) taken-now;
-          right = right-more s actions (variants.Event e) old new shown.frames frame shown.shows shown.right next-shows (λ asked. absurd (never (is_refreshing s.desc (variants.Event e)) asked calm));
+          right = right-more colours s actions (variants.Event e) old new shown.frames frame shown.shows shown.right next-shows (λ asked. absurd (never (is_refreshing s.desc (variants.Event e)) asked calm));
         }
 
 -- ---- the whole screen
@@ -297,9 +301,9 @@ module _ {W : Type 0} {seen : W → Seen} (t : Session) {screen : Picture} (curs
   on-first : {column row : ℕ} → IsScreenPlace t column row → IsOn screen column row
   on-first on = record { across = omega (arith, on.across, is.width); down = omega (arith, on.down, is.height) }
 
-  begun-shows : {d e : Display} → Begun screen (cursor_on screen.width screen.height cursor) new d e → ShowsSession t d e
+  begun-shows : {d e : Display} → Begun screen (cursor_on screen.width screen.height cursor) new d e → ShowsSession new.colours t d e
   begun-shows {d} {e} b = record {
-    each = λ column row on. b.shows.each column row (on-first on) ∙ ap tile_of (is.cells.each column row (on-first on));
+    each = λ column row on. b.shows.each column row (on-first on) ∙ ap (tile_of new.colours) (is.cells.each column row (on-first on));
     cursor = cursor-shown t screen is cursor finds e b.points;
     columns = b.columns;
     rows = b.rows;
@@ -326,7 +330,7 @@ module _ {W : Type 0} {seen : W → Seen} (t : Session) {screen : Picture} (curs
 
   -- ---- the beginning
 
-  first-each : (d : Display) → HasRoom t d → (j k : ℕ) → is_whole t.desc [] j ≡ true → j ≤ k → k ≤ 0 → Becomes (concat (drop j (take (k + 1) (p.bytes ∷ [])))) d (ShowsFrames t [] j k d)
+  first-each : (d : Display) → HasRoom t d → (j k : ℕ) → is_whole t.desc [] j ≡ true → j ≤ k → k ≤ 0 → Becomes (concat (drop j (take (k + 1) (p.bytes ∷ [])))) d (ShowsFrames new.colours t [] j k d)
   first-each d room j k whole le none =
       let first : j ≡ 0 = omega (arith, le, none) in
       let last : k ≡ 0 = omega (arith, none) in
@@ -338,10 +342,11 @@ module _ {W : Type 0} {seen : W → Seen} (t : Session) {screen : Picture} (curs
       let first : j ≡ 0 = omega (arith, none) in
       rw (first, append-nil p.bytes) (tells-as (λ e b. b.right) (p.tells d (space room.across room.down)))
 
-  pub shown-first : x.stopped ≡ false → HasBeenShown t [] (seen x.out.now) (seen z.out.now) z.stopped new
+  pub shown-first : x.stopped ≡ false → HasBeenShown old.colours t [] (seen x.out.now) (seen z.out.now) z.stopped new
   shown-first going = record {
     frames = p.bytes ∷ [];
-    shows = record { count = refl; each = first-each };
+    same = p.colours;
+    shows = subst (λ (c : Colours). ShowsEach c t [] (p.bytes ∷ [])) p.colours (record { count = refl; each = first-each });
     put = rw (append-nil p.bytes) (subst (λ (b : Bool). PutsBy (seen x.out.now) b (seen z.out.now) z.stopped p.bytes) going p.puts.how);
     taken = begun-taken;
     right = first-right;
@@ -352,7 +357,7 @@ module _ {W : Type 0} {seen : W → Seen} (t : Session) {screen : Picture} (curs
 loud-screen : (t : Session) (screen : Picture) → IsScreenOf (quiet t) screen → IsScreenOf t screen
 loud-screen t screen is = record { width = is.width; height = is.height; cells = is.cells }
 
-module _ {W : Type 0} {seen : W → Seen} (s : Session) (actions : List Action) (a : Action) (asked : is_refreshing s.desc a ≡ true) {screen : Picture} (cursor : Option Point) {old new : Painter} {x z : Pen W} (quietly : IsScreenOf (quiet (reached s actions)) screen) (finds : FindsCursor screen cursor) (loud : HasSize (reached s actions) old) (p : BeginsScreen seen screen (cursor_on screen.width screen.height cursor) old new x z) where
+module _ {W : Type 0} {seen : W → Seen} (s : Session) (actions : List Action) (a : Action) (asked : is_refreshing s.desc a ≡ true) {screen : Picture} (cursor : Option Point) {old new : Painter} {x z : Pen W} (quietly : IsScreenOf (quiet (reached s actions)) screen) (finds : FindsCursor screen cursor) (loud : HasSize (reached s actions) old) {colours : Colours} (still : old.colours ≡ colours) (p : BeginsScreen seen screen (cursor_on screen.width screen.height cursor) old new x z) where
   abbrev shown-now : Session
   shown-now = reached s actions
 
@@ -372,7 +377,7 @@ module _ {W : Type 0} {seen : W → Seen} (s : Session) (actions : List Action) 
   }
 
   -- what showed is shown again
-  again : {d f g : Display} → ShowsSession shown-now d f → ShowsSession shown-now f g → ShowsSession shown-now d g
+  again : {d f g : Display} → ShowsSession colours shown-now d f → ShowsSession colours shown-now f g → ShowsSession colours shown-now d g
   again {d} {f} {g} before law = record {
     each = law.each;
     cursor = law.cursor;
@@ -387,38 +392,42 @@ module _ {W : Type 0} {seen : W → Seen} (s : Session) (actions : List Action) 
     lost = law.lost ∙ before.lost;
   }
 
-  next-again : (d f : Display) → HasRoom s d → (j : ℕ) → j ≤ length actions → ShowsFrames s actions j (length actions) d f → IsRight old f
-      → Becomes p.bytes f (λ g. ShowsFrames s (actions ++ a ∷ []) j (length actions + 1) d g × IsRight new g)
+  now-shows : {f g : Display} → Begun screen (cursor_on screen.width screen.height cursor) new f g → ShowsSession colours shown-now f g
+  now-shows {f} {g} b = subst (λ (c : Colours). ShowsSession c shown-now f g) (p.colours ∙ still) (begun-shows shown-now cursor is-screen finds loud p b)
+
+  next-again : (d f : Display) → HasRoom s d → (j : ℕ) → j ≤ length actions → ShowsFrames colours s actions j (length actions) d f → IsRight old f
+      → Becomes p.bytes f (λ g. ShowsFrames colours s (actions ++ a ∷ []) j (length actions + 1) d g × IsRight new g)
   next-again d f room j few law right =
-      let shows : ShowsSession shown-now d f = subst (λ x. ShowsSession (reached s x) d f) (taken-all s actions) law.shows in
+      let shows : ShowsSession colours shown-now d f = subst (λ x. ShowsSession colours (reached s x) d f) (taken-all s actions) law.shows in
       let first : refusals_to s (actions ++ a ∷ []) j ≡ refusals_to s actions j = ap (λ x. refusals s (events_in s.desc x)) (take-append-le j actions (a ∷ []) few) in
       let all : refusals_to s actions (length actions) ≡ refusals s (events_in s.desc actions) = ap (λ x. refusals s (events_in s.desc x)) (taken-all s actions) in
       tells-as (λ g b. (
         record {
-          shows = subst (λ x. ShowsSession x d g) same-session (again shows (begun-shows shown-now cursor is-screen finds loud p b));
+          shows = subst (λ x. ShowsSession colours x d g) same-session (again shows (now-shows b));
           bells = omega (arith, first, all, same-refusals, law.bells, b.bells);
         },
         b.right,
       )) (p.tells f (room-for d f room shows.columns shows.rows))
 
   fresh-again : is_refreshing s.desc a ≡ true → (d : Display) → HasRoom s d
-      → Becomes p.bytes d (λ g. ShowsFrames s (actions ++ a ∷ []) (length actions + 1) (length actions + 1) d g × IsRight new g)
+      → Becomes p.bytes d (λ g. ShowsFrames colours s (actions ++ a ∷ []) (length actions + 1) (length actions + 1) d g × IsRight new g)
   fresh-again is d room =
       tells-as (λ g b. (
         record {
-          shows = subst (λ x. ShowsSession x d g) same-session (begun-shows shown-now cursor is-screen finds loud p b);
+          shows = subst (λ x. ShowsSession colours x d g) same-session (now-shows b);
           bells = omega (arith, b.bells);
         },
         b.right,
       )) (p.tells d (room-for d d room refl refl))
 
-  pub shown-again : (from : Seen) → HasBeenShown s actions from (seen x.out.now) x.stopped old → HasBeenShown s (actions ++ a ∷ []) from (seen z.out.now) z.stopped new
+  pub shown-again : (from : Seen) → HasBeenShown colours s actions from (seen x.out.now) x.stopped old → HasBeenShown colours s (actions ++ a ∷ []) from (seen z.out.now) z.stopped new
   shown-again from shown = record {
     frames = shown.frames ++ p.bytes ∷ [];
-    shows = shows-more s actions a old new shown.frames p.bytes shown.shows shown.right next-again fresh-again;
+    same = p.colours ∙ still;
+    shows = shows-more colours s actions a old new shown.frames p.bytes shown.shows shown.right next-again fresh-again;
     put = rw (concat-push shown.frames p.bytes) (put-then from (seen x.out.now) (seen z.out.now) x.stopped z.stopped (concat shown.frames) p.bytes shown.put p.puts.how);
     taken = subst (λ u. HasTaken u new) (sym (reached-refresh s actions a asked)) (begun-taken shown-now cursor is-screen finds loud p);
-    right = right-more s actions a old new shown.frames p.bytes shown.shows shown.right next-again fresh-again;
+    right = right-more colours s actions a old new shown.frames p.bytes shown.shows shown.right next-again fresh-again;
   }
 
 -- ---- the end
@@ -426,12 +435,12 @@ module _ {W : Type 0} {seen : W → Seen} (s : Session) (actions : List Action) 
 restored-is : (d f : Display) → f.columns ≡ d.columns → f.rows ≡ d.rows → f.is_lost ≡ d.is_lost → record (restored (normal_of d) f) { bells = d.bells } ≡ restored (normal_of d) d
 restored-is d f columns rows lost = rw (columns, rows, lost) refl
 
-pub restores : (s : Session) (actions : List Action) (frames : List (List ℕ)) → ShowsEach s actions frames → IsRestored s actions frames
-restores s actions frames shows = record {
+pub restores : {colours : Colours} (s : Session) (actions : List Action) (frames : List (List ℕ)) → ShowsEach colours s actions frames → IsRestored s actions frames
+restores {colours} s actions frames shows = record {
   end = λ d room j whole le.
       let n : ℕ = length actions in
       let all : take (n + 1) frames ≡ frames = take_all (n + 1) frames (omega (arith, shows.count)) in
-      let last : Becomes (concat (drop j frames)) d (ShowsFrames s actions j n d) = rw all at (shows.each d room j n whole le (omega arith)) in
+      let last : Becomes (concat (drop j frames)) d (ShowsFrames colours s actions j n d) = rw all at (shows.each d room j n whole le (omega arith)) in
       tells-then (concat (drop j frames)) last (λ f law. record {
         after = restored (normal_of d) f;
         is = told-end f (normal_of d) law.shows.covered;

@@ -1,5 +1,6 @@
 -- What comes of a thing that the user did.
 use Rattle.std.proofs.Common.{◌≡◌, Bool, true, false, List, [], ◌∷◌, ◌++◌, Option, None, Result, Ok, Err, refl, sym, ap, subst, ◌∙◌}
+use Rattle.tv_terminal.specs.declared.colour.Colours.{Colours}
 use Rattle.tv_terminal.specs.declared.painter.Painter.{Painter}
 use Rattle.tv_cells.specs.declared.rect.Rect.{Rect}
 use Rattle.tv_event.specs.declared.event.Event.{Event as Happening}
@@ -66,7 +67,7 @@ module _ (s : Session) (symbols next : List Symbol) (from old : Outside) (Old : 
     left-still : Old (after s (script_of s.desc (p.actions ++ a ∷ [])))
     left-still = subst (λ x. Old (after s (script_with x))) (sym same-events) p.performs.left
 
-    pub refreshes : (stop : Bool) → HasBeenShown s (p.actions ++ a ∷ []) from.screen screen stop painter
+    pub refreshes : (stop : Bool) → HasBeenShown from.painter.colours s (p.actions ++ a ∷ []) from.screen screen stop painter
         → TurnsTo s next from (later stop) Old (outcome_of false (Ok tt) stop)
     refreshes true shown = record {
       actions = p.actions ++ a ∷ [];
@@ -87,7 +88,7 @@ module _ (s : Session) (symbols next : List Symbol) (from old : Outside) (Old : 
 
   -- an event was performed
   module _ (now : Outside) (New : Session → Type 0) (e : Happening) (taken : IsTakenFor s.desc (Event e) (steps.Perform e)) (means : decode next ≡ decode symbols ++ Event e ∷ []) (stands : (t : Session) → Old t → New (quiet (stepped t e)))
-      (shown : (actions : List Action) (from : Seen) → Old (quiet (reached s actions)) → HasBeenShown s actions from old.screen old.stopped old.painter → HasBeenShown s (actions ++ Event e ∷ []) from now.screen now.stopped now.painter) where
+      (shown : (colours : Colours) (actions : List Action) (from : Seen) → Old (quiet (reached s actions)) → HasBeenShown colours s actions from old.screen old.stopped old.painter → HasBeenShown colours s (actions ++ Event e ∷ []) from now.screen now.stopped now.painter) where
     abbrev more : List Action
     more = p.actions ++ Event e ∷ []
 
@@ -100,8 +101,8 @@ module _ (s : Session) (symbols next : List Symbol) (from old : Outside) (Old : 
     left : New (after s (script_of s.desc more))
     left = subst (λ x. New (after s (script_with x))) (sym pushed) (left-event New s (events_in s.desc p.actions) e (stands (quiet (reached s p.actions)) stands-before))
 
-    shows : HasBeenShown s more from.screen now.screen now.stopped now.painter
-    shows = shown p.actions from.screen stands-before p.shown
+    shows : HasBeenShown from.painter.colours s more from.screen now.screen now.stopped now.painter
+    shows = shown from.painter.colours p.actions from.screen stands-before p.shown
 
     finished-by : (answer b : Bool) → ((t : Session) → Old t → answer ≡ is_finished (stepped t e)) → answer ≡ b → is_finished (reached s more) ≡ b
     finished-by answer b is told = ap is_finished (reached-perform s p.actions e taken.2) ∙ sym (is (quiet (reached s p.actions)) stands-before) ∙ told

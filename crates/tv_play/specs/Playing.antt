@@ -8,6 +8,7 @@ use Rattle.tv_machine.specs.Output.{after, output}
 use Rattle.tv_machine.specs.Run.{Session}
 use Rattle.tv_terminal.specs.Decoding.{Symbol}
 use Rattle.tv_terminal.specs.declared.action.Action.{Action}
+use Rattle.tv_terminal.specs.declared.colour.Colours.{Colours}
 use Rattle.tv_play.specs.Ends.{is_finished, reached, script_of}
 use Rattle.tv_play.specs.Pieces.{ComesNot, HasCome, Heard}
 use Rattle.tv_play.specs.Shown.{IsRestored, ShowsEach}
@@ -71,20 +72,20 @@ ComesOf s symbols actions rest bytes old new (Ok parting) =
     IsPlayed s symbols actions rest bytes old new parting
 ComesOf s symbols actions rest bytes old new (Err fault) = IsBroken s symbols actions rest bytes old new fault
 
--- A run from a session. The actions are the first of what the symbols that came mean; the session that is left is
+-- A run from a session, shown by some colours. The actions are the first of what the symbols that came mean; the session that is left is
 -- the one to which their events lead; the log is what the script of these writes. A terminal that is told what
 -- was written for the screen shows the session's screen at the beginning and after each action, also where it
 -- showed something else before an action that has the screen painted anew, and at the end what it showed
 -- before. Before each call of the input, and at the end, what was written is passed on
-pub record Plays (s : Session) (old new : Ports) (Left : Session → Type 0) (result : Result Parting PlayFault)
-    : Type 0 where
+pub record Plays (colours : Colours) (s : Session) (old new : Ports) (Left : Session → Type 0)
+    (result : Result Parting PlayFault) : Type 0 where
   pub symbols : List Symbol
   pub actions : List Action
   pub rest : List Action
   pub heard : IsHeard s symbols actions rest
   pub left : Left (after s (script_of s.desc actions))
   pub frames : List (List ℕ)
-  pub shows : ShowsEach s actions frames
+  pub shows : ShowsEach colours s actions frames
   pub restores : IsRestored s actions frames
   pub comes : ComesOf s symbols actions rest (concat frames ++ end_bytes) old new result
 
@@ -94,10 +95,10 @@ pub record IsUnbegun (s : Session) (old new : Ports) (Left : Session → Type 0)
   pub left : Left s
 
 -- it was played, or there was no memory to begin
-abbrev pub PlaysTo : (s : Session) (old new : Ports) (Left : Session → Type 0) → Result Parting PlayFault
-    → Type 0
-PlaysTo s old new Left (Err faults.NoMemory) = IsUnbegun s old new Left
-PlaysTo s old new Left result = Plays s old new Left result
+abbrev pub PlaysTo : (colours : Colours) (s : Session) (old new : Ports) (Left : Session → Type 0)
+    → Result Parting PlayFault → Type 0
+PlaysTo colours s old new Left (Err faults.NoMemory) = IsUnbegun s old new Left
+PlaysTo colours s old new Left result = Plays colours s old new Left result
 
 -- a run that ended by itself, but for a log that couldn't be passed on, or a screen that couldn't be written
 abbrev pub told_with : Parting → Result (Unit {0}) WriteFailed → Bool → Result Parting PlayFault

@@ -6,6 +6,7 @@ use Rattle.tv_terminal.specs.Terminal.{Covered, Display, kept_of}
 use Rattle.tv_terminal.specs.Writing.{restored}
 use Rattle.tv_terminal.specs.Written.{end_bytes}
 use Rattle.tv_terminal.specs.declared.action.Action.{Action}
+use Rattle.tv_terminal.specs.declared.colour.Colours.{Colours}
 use Rattle.tv_terminal.specs.declared.painter.Painter.{Painter}
 use Rattle.tv_cells.specs.Repainting.{has_cell}
 use Rattle.tv_cells.specs.declared.rect.Rect.{Rect}
@@ -54,9 +55,9 @@ pub record ShowsCursor (s : Session) (e : Display) : Type 0 where
 
 -- it shows each cell of the session's screen, by its character and its colours, and the cursor of the focused
 -- input, tells of the mouse, keeps its normal screen, and was told nothing that its definition lacks
-pub record ShowsSession (s : Session) (d e : Display) : Type 0 where
+pub record ShowsSession (colours : Colours) (s : Session) (d e : Display) : Type 0 where
   pub each : (column row : ℕ) → IsScreenPlace s column row
-      → e.cells column row ≡ tile_of (screen_cell s column row)
+      → e.cells column row ≡ tile_of colours (screen_cell s column row)
   pub cursor : ShowsCursor s e
   pub columns : e.columns ≡ d.columns
   pub rows : e.rows ≡ d.rows
@@ -81,16 +82,18 @@ refusals_to s actions k = refusals s (events_in s.desc (take k actions))
 
 -- told some frames, up to that of an action, it shows the screen that the action left, and its bell rang once
 -- for each refusal
-pub record ShowsFrames (s : Session) (actions : List Action) (j k : ℕ) (d e : Display) : Type 0 where
-  pub shows : ShowsSession (reached s (take k actions)) d e
+pub record ShowsFrames (colours : Colours) (s : Session) (actions : List Action) (j k : ℕ) (d e : Display)
+    : Type 0 where
+  pub shows : ShowsSession colours (reached s (take k actions)) d e
   pub bells : e.bells + refusals_to s actions j ≡ d.bells + refusals_to s actions k
 
 -- The bytes of the beginning, and those of each action: told them from a frame on that paints the whole screen,
 -- a terminal that showed anything shows what each action left, with no sequence left open
-pub record ShowsEach (s : Session) (actions : List Action) (frames : List (List ℕ)) : Type 0 where
+pub record ShowsEach (colours : Colours) (s : Session) (actions : List Action) (frames : List (List ℕ))
+    : Type 0 where
   pub count : length frames ≡ length actions + 1
   pub each : (d : Display) → HasRoom s d → (j k : ℕ) → is_whole s.desc actions j ≡ true → j ≤ k
-      → k ≤ length actions → Becomes (concat (drop j (take (k + 1) frames))) d (ShowsFrames s actions j k d)
+      → k ≤ length actions → Becomes (concat (drop j (take (k + 1) frames))) d (ShowsFrames colours s actions j k d)
 
 -- it is as it was, in plain colours, with its cursor, without the mouse and what else a run asks for; but its bell
 -- rang once for each refusal

@@ -5,6 +5,7 @@ use Rattle.std.specs.List.{concat}
 use Rattle.tv_terminal.specs.Displays.{Becomes}
 use Rattle.tv_terminal.specs.Terminal.{Display}
 use Rattle.tv_terminal.specs.Writing.{IsRight}
+use Rattle.tv_terminal.specs.declared.colour.Colours.{Colours}
 use Rattle.tv_terminal.specs.declared.painter.Painter.{Painter}
 use Rattle.tv_cells.specs.Picture.{IsOn, cell_at}
 use Rattle.tv_io.specs.Pen.{PutsBy}
@@ -35,10 +36,12 @@ pub record HasTaken (s : Session) (painter : Painter) : Type 0 where
       → cell_at painter.shown column row ≡ screen_cell s column row
 
 -- what a terminal has to be told of the run so far was written to it, and the painter knows what that shows
-pub record HasBeenShown (s : Session) (actions : List Action) (from now : Seen) (stopped : Bool)
+pub record HasBeenShown (colours : Colours) (s : Session) (actions : List Action) (from now : Seen)
+    (stopped : Bool)
     (painter : Painter) : Type 0 where
   pub frames : List (List ℕ)
-  pub shows : ShowsEach s actions frames
+  pub same : painter.colours ≡ colours
+  pub shows : ShowsEach colours s actions frames
   pub put : PutsBy from false now stopped (concat frames)
   pub taken : HasTaken (reached s actions) painter
   pub right : (d : Display) → HasRoom s d → (j : ℕ) → is_whole s.desc actions j ≡ true → j ≤ length actions
@@ -68,7 +71,7 @@ pub record IsPlaying (s : Session) (symbols : List Symbol) (from now : Outside) 
   pub actions : List Action
   pub heard : IsHeard s symbols actions []
   pub goes : is_finished (reached s actions) ≡ false
-  pub shown : HasBeenShown s actions from.screen now.screen now.stopped now.painter
+  pub shown : HasBeenShown from.painter.colours s actions from.screen now.screen now.stopped now.painter
   pub performs : Performs s (script_of s.desc actions) from.log now.log Left
   pub going : now.stopped ≡ false
 
@@ -97,7 +100,7 @@ pub record HasPlayedOut (s : Session) (symbols : List Symbol) (from now : Outsid
   pub actions : List Action
   pub rest : List Action
   pub heard : IsHeard s symbols actions rest
-  pub shown : HasBeenShown s actions from.screen now.screen now.stopped now.painter
+  pub shown : HasBeenShown from.painter.colours s actions from.screen now.screen now.stopped now.painter
   pub left : Left (after s (script_of s.desc actions))
   pub ended : IsEndedBy s actions rest from now outcome
 
@@ -133,7 +136,7 @@ pub record HasRun (s : Session) (input later : Heard) (from now : Outside) (Left
   pub actions : List Action
   pub rest : List Action
   pub heard : IsHeard s symbols actions rest
-  pub shown : HasBeenShown s actions from.screen now.screen now.stopped now.painter
+  pub shown : HasBeenShown from.painter.colours s actions from.screen now.screen now.stopped now.painter
   pub left : Left (after s (script_of s.desc actions))
   pub came : CameTo s symbols actions rest input later from now outcome
 

@@ -18,13 +18,13 @@ use crate::show;
 use std::alloc::Global;
 use tv_cells::ScreenFault;
 use tv_io::{Pen, WriteFailed, Writer};
-use tv_terminal::{Decoder, Painter};
+use tv_terminal::{Colours, Decoder, Painter};
 
 /// The bytes that are asked for at once.
 const PIECE: usize = 64;
 
-/// Plays a run in a terminal: takes what comes from the user in pieces, shows on `screen` what it leaves, and writes the log on
-/// `log`. What was written is passed on before each read, and at the end. Tells why it ended.
+/// Plays a run in a terminal: takes what comes from the user in pieces, shows on `screen` what it leaves, in `colours`, and writes
+/// the log on `log`. What was written is passed on before each read, and at the end. Tells why it ended.
 ///
 /// It takes memory before anything is read or written, and none after that. The terminal is turned to its alternate screen, and at
 /// the end back to its normal one, also where it is broken off.
@@ -41,24 +41,26 @@ pub fn play<L: Live, P: Pieces, T: Writer, W: Writer>(
     pieces: &mut P,
     screen: &mut T,
     log: &mut W,
+    colours: Colours,
 ) -> Result<Parting, PlayFault>
     requires there { (s : Session) × L.stands stage.old s }
     ensures { (s : Session) → L.stands stage.old s
-        → PlaysTo s (record { input = P.heard pieces.old; log = W.seen log.old; screen = T.seen screen.old })
+        → PlaysTo colours s (record { input = P.heard pieces.old; log = W.seen log.old; screen = T.seen screen.old })
         (record { input = P.heard pieces.new; log = W.seen log.new; screen = T.seen screen.new }) (L.stands stage.new) result }
 {
-    let Ok(mut painter) = painter_of(alloc, stage) else {
+    let Ok(mut painter) = painter_of(alloc, stage, colours) else {
         return Err(PlayFault::NoMemory);
     };
     play_with(stage, pieces, screen, log, &mut painter)
 }
 
 // A painter for its screen.
-fn painter_of<L: Live>(alloc: Global, stage: &L) -> Result<Painter, ScreenFault>
-    ensures { (s : Session) → L.stands stage.now s → IfOk result (λ painter. HasSize s painter) }
+fn painter_of<L: Live>(alloc: Global, stage: &L, colours: Colours) -> Result<Painter, ScreenFault>
+    ensures size { (s : Session) → L.stands stage.now s → IfOk result (λ painter. HasSize s painter) }
+    ensures colours { IfOk result (λ painter. painter.colours ≡ colours) }
 {
     let screen = stage.screen();
-    Painter::new(alloc, screen.width(), screen.height())
+    Painter::new(alloc, screen.width(), screen.height(), colours)
 }
 
 // Plays it with a painter for its screen.
@@ -71,7 +73,7 @@ fn play_with<L: Live, P: Pieces, T: Writer, W: Writer>(
 ) -> Outcome
     requires there { (t : Session) × L.stands stage.old t × HasSize t painter.old }
     ensures { (s : Session) → L.stands stage.old s
-        → PlaysTo s (record { input = P.heard pieces.old; log = W.seen log.old; screen = T.seen screen.old })
+        → PlaysTo painter.old.colours s (record { input = P.heard pieces.old; log = W.seen log.old; screen = T.seen screen.old })
         (record { input = P.heard pieces.new; log = W.seen log.new; screen = T.seen screen.new }) (L.stands stage.new) result }
 {
     let mut player = Player {
@@ -94,7 +96,7 @@ impl<L: Live, T: Writer, W: Writer> Player<'_, '_, '_, '_, L, T, W> {
         requires fresh { self.old.decoder ≡ between false }
         ensures same { HasSame self.old self.new }
         ensures plays { (s : Session) → L.stands self.old.stage.now s
-            → Plays s (ports_of T.seen W.seen (P.heard pieces.old) self.old)
+            → Plays self.old.painter.now.colours s (ports_of T.seen W.seen (P.heard pieces.old) self.old)
             (ports_of T.seen W.seen (P.heard pieces.new) self.new) (L.stands self.new.stage.now) result }
     {
         let outcome = self.play_begun(pieces);

@@ -5,6 +5,7 @@ ghost use Rattle.std.specs.List.{concat};
 ghost use Rattle.tv_terminal.specs.Written.{end_bytes};
 ghost use Rattle.tv_event.specs.declared.event.Event.{Event as Happening};
 ghost use Rattle.tv_terminal.specs.declared.action.Action.{Action};
+ghost use Rattle.tv_terminal.specs.declared.colour.Colours.{Colours};
 ghost use Rattle.tv_terminal.specs.declared.action.Action.TheVariants as variants;
 ghost use Rattle.tv_io.specs.Pen.{PutsBy};
 ghost use Rattle.tv_io.specs.Writer.{Seen};
@@ -25,11 +26,11 @@ pub(crate) fn show_all<L: Live, T: Writer>(painter: &mut Painter, pen: &mut Pen<
     ensures size { (t : Session) → HasSize t painter.old → HasSize t painter.new }
     ensures same { pen.new.out.ghost_name ≡ pen.old.out.ghost_name }
     ensures first { (s : Session) → L.stands stage.now s → pen.old.stopped ≡ false
-        → HasBeenShown s [] (T.seen pen.old.out.now) (T.seen pen.new.out.now) pen.new.stopped painter.new }
-    ensures again { (s : Session) (actions : List Action) (action : Action) (from : Seen)
+        → HasBeenShown painter.old.colours s [] (T.seen pen.old.out.now) (T.seen pen.new.out.now) pen.new.stopped painter.new }
+    ensures again { (colours : Colours) (s : Session) (actions : List Action) (action : Action) (from : Seen)
         → L.stands stage.now (quiet (reached s actions)) → is_refreshing s.desc action ≡ true
-        → HasBeenShown s actions from (T.seen pen.old.out.now) pen.old.stopped painter.old
-        → HasBeenShown s (actions ++ action ∷ []) from (T.seen pen.new.out.now) pen.new.stopped painter.new }
+        → HasBeenShown colours s actions from (T.seen pen.old.out.now) pen.old.stopped painter.old
+        → HasBeenShown colours s (actions ++ action ∷ []) from (T.seen pen.new.out.now) pen.new.stopped painter.new }
 {
     let screen = stage.screen();
     let cursor = find_cursor(screen, &[]);
@@ -41,12 +42,12 @@ pub(crate) fn repaint<L: Live, T: Writer>(painter: &mut Painter, pen: &mut Pen<T
     requires there { (s : Session) × L.stands stage.now s × HasSize s painter.old }
     ensures size { (t : Session) → HasSize t painter.old → HasSize t painter.new }
     ensures same { pen.new.out.ghost_name ≡ pen.old.out.ghost_name }
-    ensures shown { (s : Session) (actions : List Action) (event : Happening) (from : Seen)
+    ensures shown { (colours : Colours) (s : Session) (actions : List Action) (event : Happening) (from : Seen)
         → is_refreshing s.desc (variants.Event event) ≡ false
         → L.stands stage.now (stepped (reached s actions) event)
         → KeepsScreen (L.repaints stage.now) (reached s actions) (stepped (reached s actions) event)
-        → HasBeenShown s actions from (T.seen pen.old.out.now) pen.old.stopped painter.old
-        → HasBeenShown s (actions ++ variants.Event event ∷ []) from (T.seen pen.new.out.now) pen.new.stopped painter.new }
+        → HasBeenShown colours s actions from (T.seen pen.old.out.now) pen.old.stopped painter.old
+        → HasBeenShown colours s (actions ++ variants.Event event ∷ []) from (T.seen pen.new.out.now) pen.new.stopped painter.new }
 {
     let (screen, rects) = (stage.screen(), stage.repainted());
     let cursor = find_cursor(screen, rects);

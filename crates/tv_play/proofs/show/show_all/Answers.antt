@@ -14,6 +14,6 @@ returns-clause-first g c = λ s stands going.
     c.begin.ensures going
 
 pub returns-clause-again : goal.returns-clause-again
-returns-clause-again g c = λ s actions action from stands asked shown.
+returns-clause-again g c = λ colours s actions action from stands asked shown.
     shown-again s actions action asked c.find_cursor-cursor.result (c.screen-screen.ensures _ stands) c.find_cursor-cursor.ensures
-    shown.taken.size c.begin.ensures from shown
+    shown.taken.size shown.same c.begin.ensures from shown

@@ -47,8 +47,8 @@ returns-clause-acts g c = λ s symbols next from playing read means.
       turns = turns-told s next from now New c.outcome_of.ensures
           (turns s symbols next from _ _ playing now New e taken means
           (λ t stands. c.write_log-written.ensures.taken (stepped t e) (c.react.ensures.stands t stands))
-          (λ actions first stands shown.
-          c.repaint.ensures.shown s actions e first taken.2
+          (λ colours actions first stands shown.
+          c.repaint.ensures.shown colours s actions e first taken.2
           (c.react.ensures.stands (quiet (reached s actions)) stands)
           (keeps-loud (reached s actions) e (c.react.ensures.rest (quiet (reached s actions)) stands)) shown)
           c.is_finished-is_finished.result (λ t stands. c.is_finished-is_finished.ensures (stepped t e) (c.react.ensures.stands t stands)) c.write_log-written.result c.repaint.new.pen.stopped refl
