@@ -12,10 +12,11 @@ use tv_check::Checked;
 use tv_io::Writer;
 use tv_play::{Parting, Pieces};
 use tv_session::{BuildFault, Views, parts_are_lawful};
+use tv_terminal::Colours;
 use tv_view::View;
 
 /// Plays a description in a terminal, through views that are made for it: takes what comes from the user in pieces, shows on
-/// `screen` what it leaves, and writes the log on `log`. Tells why it ended.
+/// `screen` what it leaves, in `colours`, and writes the log on `log`. Tells why it ended.
 ///
 /// The description is read first, then its faults are looked for, then the views are made and the session is begun; nothing
 /// is read or written before all of them have passed. What was written is passed on before each read.
@@ -44,15 +45,16 @@ pub fn play<
     make: &F,
     screen: &mut T,
     log: &mut W,
+    colours: Colours,
 ) -> Result<Parting, RunFault>
     requires { F.IsAlwaysCallable make.now }
-    ensures output { PlaysText (IsMismade (Makes F.Fn make.now) V.meaning) desc.now
+    ensures output { PlaysText (IsMismade (Makes F.Fn make.now) V.meaning) colours desc.now
         (record { input = P.heard pieces.old; log = W.seen log.old; screen = T.seen screen.old })
         (record { input = P.heard pieces.new; log = W.seen log.new; screen = T.seen screen.new }) result }
     ensures laws { IsLawfulText desc.now }
 {
     let checked = read_checked(alloc, desc)?;
-    play_from(alloc, checked, pieces, make, screen, log)
+    play_from(alloc, checked, pieces, make, screen, log, colours)
 }
 
 /// Plays a description that was read by `read_checked`. What comes of it is what comes of `play` on the description's text.
@@ -71,14 +73,15 @@ pub fn play_from<
     make: &F,
     screen: &mut T,
     log: &mut W,
+    colours: Colours,
 ) -> Result<Parting, RunFault>
     requires { F.IsAlwaysCallable make.now }
     ensures { (text : List ℕ) → IsSoundText text checked
-        → PlaysText (IsMismade (Makes F.Fn make.now) V.meaning) text
+        → PlaysText (IsMismade (Makes F.Fn make.now) V.meaning) colours text
         (record { input = P.heard pieces.old; log = W.seen log.old; screen = T.seen screen.old })
         (record { input = P.heard pieces.new; log = W.seen log.new; screen = T.seen screen.new }) result }
 {
     parts_are_lawful(checked.desc());
     let mut session = begin(alloc, checked, make)?;
-    Ok(tv_play::play(alloc, &mut session, pieces, screen, log)?)
+    Ok(tv_play::play(alloc, &mut session, pieces, screen, log, colours)?)
 }

@@ -7,6 +7,7 @@ use std::test::Fail;
 use tv_check::Checked;
 use tv_play::{Parting, Piece, Pieces};
 use tv_program::play;
+use tv_terminal::Colours;
 use tv_test_support::Memory;
 use tv_test_support::descriptions::ORDER;
 
@@ -45,7 +46,15 @@ fn play_into(alloc: Global, sent: &[u8], screen: &mut Memory, log: &mut Memory) 
         left: sent,
         is_ended: false,
     };
-    let ended = play(alloc, ORDER.as_bytes(), &mut sent, &make, screen, log);
+    let ended = play(
+        alloc,
+        ORDER.as_bytes(),
+        &mut sent,
+        &make,
+        screen,
+        log,
+        Colours::Sixteen,
+    );
     matches!(ended, Ok(Parting::Ended))
 }
 

@@ -8,6 +8,7 @@ use std::test::Fail;
 use tv_io::{FileReader, ReadFault, read_text};
 use tv_play::{Parting, Piece, Pieces};
 use tv_program::{RunFault, Trouble, accept_files, check, play, run};
+use tv_terminal::Colours;
 use tv_test_support::Memory;
 use tv_test_support::button_views::buttons;
 use tv_test_support::certificates::CANCEL_CERTIFICATE;
@@ -105,7 +106,15 @@ fn play_into(
     screen: &mut Memory,
     log: &mut Memory,
 ) -> Result<Parting, RunFault> {
-    play(alloc, CANCEL.as_bytes(), letter, &buttons, screen, log)
+    play(
+        alloc,
+        CANCEL.as_bytes(),
+        letter,
+        &buttons,
+        screen,
+        log,
+        Colours::Sixteen,
+    )
 }
 
 // Where memory was refused nothing was read or written, and a second call plays the dialog to its end.

@@ -8,6 +8,7 @@ use tv_io::FileReader;
 use tv_play::{Parting, PlayFault, play};
 use tv_program::{read_checked, run};
 use tv_session::{SessionOf, Views};
+use tv_terminal::Colours;
 use tv_test_support::Memory;
 use tv_test_support::button_views::buttons;
 use tv_view::View;
@@ -26,7 +27,7 @@ fn play_over<V: View>(
 ) -> Option<Outcome> {
     let Views { windows, bodies } = views;
     match SessionOf::new(alloc, checked, windows, bodies) {
-        Ok(mut session) => Some(play(alloc, &mut session, sent, screen, log)),
+        Ok(mut session) => Some(play(alloc, &mut session, sent, screen, log, Colours::Sixteen)),
         Err(_) => None,
     }
 }
