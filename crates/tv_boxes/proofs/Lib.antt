@@ -1,0 +1,3 @@
+pub mod SizeLemmas
+pub mod SoundLemmas
+pub mod SpaceLemmas

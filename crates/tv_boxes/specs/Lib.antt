@@ -1,0 +1,7 @@
+-- Ready dialogs: the rows of a text, sizes, items, views, buttons, and the whole description.
+pub mod Wrapping
+pub mod Sizes
+pub mod Items
+pub mod Views
+pub mod Buttons
+pub mod Boxes
