@@ -1,9 +1,11 @@
 //! Tests of the checker: descriptions that are read and printed, each fault just outside of what it asks for and just
-//! inside, certificates, acceptance and plans; and what is told of all these.
+//! inside, certificates, acceptance and plans; and what is told of all these. Boxes too, which are made sound.
 #![tactic(auto)]
 
 #[cfg(test)]
 mod acceptance;
+#[cfg(test)]
+mod boxes;
 #[cfg(test)]
 mod broken_certificates;
 #[cfg(test)]

@@ -1,0 +1,344 @@
+//! Ready dialogs: the description of each kind of box, and the boxes that can't be shown.
+
+use std::alloc::Global;
+use std::test::Fail;
+use tv_boxes::{BoxKind, Choices, FormField, Item, Labels, Request, boxed};
+use tv_test_support::{Question, expect_answers};
+use tv_valid::{Chars, Sequence};
+
+// The description of the box that a text asks for, a part of the box on each line; or why there is none.
+struct Boxing;
+
+impl Question for Boxing {
+    fn answer(&self, alloc: Global, text: &[u8]) -> Result<String, Fail> {
+        let request = request_of(alloc, str::from_utf8(text)?)?;
+        match boxed(alloc, &request) {
+            Ok(text) => Ok(text),
+            Err(fault) => Ok(format!(in alloc; "{fault}\n")?),
+        }
+    }
+}
+
+fn request_of(alloc: Global, text: &str) -> Result<Request, Fail> {
+    let mut request = Request {
+        title: Chars::new(alloc),
+        text: Chars::new(alloc),
+        height: 0,
+        width: 0,
+        labels: Labels::standard(alloc)?,
+        default_no: false,
+        kind: BoxKind::Message,
+    };
+    for line in text.lines() {
+        let (part, value) = line.split_once(' ').unwrap_or((line, ""));
+        if !set_part(alloc, &mut request, part, value)? {
+            set_kind(alloc, &mut request.kind, part, value)?;
+        }
+    }
+    Ok(request)
+}
+
+fn chars(alloc: Global, text: &str) -> Result<Chars, Fail> {
+    let mut chars = Chars::new(alloc);
+    for letter in text.chars() {
+        chars.push(letter)?;
+    }
+    Ok(chars)
+}
+
+// Adds a row of text.
+fn add_row(text: &mut Chars, row: &str) -> Result<(), Fail> {
+    if !text.as_slice().is_empty() {
+        text.push('\n')?;
+    }
+    for letter in row.chars() {
+        text.push(letter)?;
+    }
+    Ok(())
+}
+
+// Sets a part that any box may have; or answers that it is none.
+fn set_part(alloc: Global, request: &mut Request, part: &str, value: &str) -> Result<bool, Fail> {
+    match part {
+        "title" => request.title = chars(alloc, value)?,
+        "text" => add_row(&mut request.text, value)?,
+        "height" => request.height = value.parse::<u8>()?,
+        "width" => request.width = value.parse::<u8>()?,
+        "yes" => request.labels.yes = chars(alloc, value)?,
+        "no" => request.labels.no = chars(alloc, value)?,
+        "ok" => request.labels.ok = chars(alloc, value)?,
+        "cancel" => request.labels.cancel = chars(alloc, value)?,
+        "default-no" => request.default_no = true,
+        _ => return Ok(false),
+    }
+    Ok(true)
+}
+
+// Sets the kind of the box, or adds an item or a field.
+fn set_kind(alloc: Global, kind: &mut BoxKind, part: &str, value: &str) -> Result<(), Fail> {
+    match part {
+        "yesno" => *kind = BoxKind::YesNo,
+        "msgbox" => *kind = BoxKind::Message,
+        "inputbox" => *kind = BoxKind::Input(chars(alloc, value)?),
+        "menu" => *kind = BoxKind::Menu(no_choices(alloc, value)?),
+        "checklist" => *kind = BoxKind::CheckList(no_choices(alloc, value)?),
+        "radiolist" => *kind = BoxKind::RadioList(no_choices(alloc, value)?),
+        "form" => *kind = BoxKind::Form(Sequence::new(alloc)),
+        "field" => add_field(alloc, kind, value)?,
+        "items" => add_items(alloc, kind, value.parse::<u8>()?)?,
+        _ => add_item(alloc, kind, value, part == "on")?,
+    }
+    Ok(())
+}
+
+fn no_choices(alloc: Global, rows: &str) -> Result<Choices, Fail> {
+    Ok(Choices {
+        rows: rows.parse::<u8>()?,
+        items: Sequence::new(alloc),
+    })
+}
+
+fn add_item(alloc: Global, kind: &mut BoxKind, value: &str, is_on: bool) -> Result<(), Fail> {
+    let (tag, text) = value.split_once(' ').unwrap_or((value, ""));
+    let item = Item {
+        tag: chars(alloc, tag)?,
+        text: chars(alloc, text)?,
+        is_on,
+    };
+    match kind {
+        BoxKind::Menu(choices) => choices.items.push(item)?,
+        BoxKind::CheckList(choices) => choices.items.push(item)?,
+        BoxKind::RadioList(choices) => choices.items.push(item)?,
+        _ => return Err(Fail::new("no items here")),
+    }
+    Ok(())
+}
+
+fn add_items(alloc: Global, kind: &mut BoxKind, count: u8) -> Result<(), Fail> {
+    for _ in 0..count {
+        add_item(alloc, kind, "x y", false)?;
+    }
+    Ok(())
+}
+
+// The numbers of the field, then its label and what it holds.
+fn add_field(alloc: Global, kind: &mut BoxKind, value: &str) -> Result<(), Fail> {
+    let BoxKind::Form(fields) = kind else {
+        return Err(Fail::new("no fields here"));
+    };
+    let mut words = value.split(' ');
+    let field = FormField {
+        label_row: words.next().unwrap_or("").parse::<u8>()?,
+        label_column: words.next().unwrap_or("").parse::<u8>()?,
+        row: words.next().unwrap_or("").parse::<u8>()?,
+        column: words.next().unwrap_or("").parse::<u8>()?,
+        width: words.next().unwrap_or("").parse::<u8>()?,
+        longest: words.next().unwrap_or("").parse::<u8>()?,
+        label: chars(alloc, words.next().unwrap_or(""))?,
+        start: chars(alloc, words.next().unwrap_or(""))?,
+    };
+    fields.push(field)?;
+    Ok(())
+}
+
+const QUESTIONS: &str = r#"yesno
+title Delete
+text Delete the letter?
+=> tvd 1
+=> screen 26 10
+=> start box
+=> dialog box 0 1 26 8 "Delete" ends cancel yes no
+=> text 2 1 22 1 "Delete the letter?"
+=> button yes 2 6 10 "~Y~es" yes default
+=> button no 14 6 10 "~N~o" no
+=> end
+yesno
+default-no
+text Sure?
+yes Do it
+no Don't
+=> tvd 1
+=> screen 26 10
+=> start box
+=> dialog box 0 1 26 8 "" ends cancel yes no
+=> text 2 1 22 1 "Sure?"
+=> button no 14 6 10 "Don't" no default
+=> button yes 2 6 10 "~D~o it" yes
+=> end
+msgbox
+text All is well.
+text And more.
+height 12
+width 40
+=> tvd 1
+=> screen 40 14
+=> start box
+=> dialog box 0 1 40 12 "" ends ok cancel
+=> text 2 1 36 1 "All is well."
+=> text 2 2 36 1 "And more."
+=> button ok 2 10 10 "~O~K" ok default
+=> end
+"#;
+
+#[test]
+fn questions(rt: HostRuntime) -> Result<(), Fail> {
+    expect_answers(&Boxing, rt.alloc(), "", QUESTIONS, "")
+}
+
+const FIELDS: &str = r#"inputbox Ada
+text Your name
+=> tvd 1
+=> screen 44 10
+=> start box
+=> dialog box 0 1 44 8 "" ends ok cancel
+=> text 2 1 40 1 "Your name"
+=> input text 2 3 40 120 any "Ada"
+=> button ok 2 6 10 "~O~K" ok default
+=> button cancel 14 6 10 "~C~ancel" cancel
+=> end
+menu 0
+text Choose
+item a One
+item long Two ~
+on b Three
+=> tvd 1
+=> screen 26 11
+=> start box
+=> dialog box 0 1 26 9 "" ends ok cancel
+=> text 2 1 22 1 "Choose"
+=> list choice 2 3 22 3 "a     One" "long  Two ~" "b     Three" start 3
+=> button ok 2 7 10 "~O~K" ok default
+=> button cancel 14 7 10 "~C~ancel" cancel
+=> end
+checklist 0
+text Which
+item a One
+on b Two
+on c Three
+cancel Other
+=> tvd 1
+=> screen 26 11
+=> start box
+=> dialog box 0 1 26 9 "" ends ok cancel
+=> text 2 1 22 1 "Which"
+=> checks choice 2 3 22 "a  One" "b  Two" "c  Three" start 2 3
+=> button ok 2 7 10 "~O~K" ok default
+=> button cancel 14 7 10 "Other" cancel
+=> end
+radiolist 0
+text One
+item a One
+on b Two
+on c Three
+=> tvd 1
+=> screen 26 11
+=> start box
+=> dialog box 0 1 26 9 "" ends ok cancel
+=> text 2 1 22 1 "One"
+=> radios choice 2 3 22 "a  One" "b  Two" "c  Three" start 2
+=> button ok 2 7 10 "~O~K" ok default
+=> button cancel 14 7 10 "~C~ancel" cancel
+=> end
+radiolist 2
+text One
+items 17
+=> tvd 1
+=> screen 26 10
+=> start box
+=> dialog box 0 1 26 8 "" ends ok cancel
+=> text 2 1 22 1 "One"
+=> list choice 2 3 22 2 "x  y" "x  y" "x  y" "x  y" "x  y" "x  y" "x  y" "x  y" "x  y" "x  y" "x  y" "x  y" "x  y" "x  y" "x  y" "x  y" "x  y" start 1
+=> button ok 2 6 10 "~O~K" ok default
+=> button cancel 14 6 10 "~C~ancel" cancel
+=> end
+form
+text Who
+field 1 1 1 10 10 0 Name: Ada
+field 2 1 2 10 20 30 Town:
+=> tvd 1
+=> screen 34 10
+=> start box
+=> dialog box 0 1 34 8 "" ends ok cancel
+=> text 2 1 30 1 "Who"
+=> text 2 3 5 1 "Name:"
+=> text 2 4 5 1 "Town:"
+=> input item1 10 3 12 10 any "Ada"
+=> input item2 10 4 22 30 any ""
+=> button ok 2 6 10 "~O~K" ok default
+=> button cancel 14 6 10 "~C~ancel" cancel
+=> end
+"#;
+
+#[test]
+fn fields(rt: HostRuntime) -> Result<(), Fail> {
+    expect_answers(&Boxing, rt.alloc(), "", FIELDS, "")
+}
+
+// Words go to the next row with no space before them; a word that is wider than a row is cut.
+const ROWS: &str = r#"msgbox
+width 20
+text The quick brown fox
+text
+text 12345678901234567890 1
+=> tvd 1
+=> screen 20 11
+=> start box
+=> dialog box 0 1 20 9 "" ends ok cancel
+=> text 2 1 16 1 "The quick brown"
+=> text 2 2 16 1 "fox"
+=> text 2 3 16 1 ""
+=> text 2 4 16 1 "1234567890123456"
+=> text 2 5 16 1 "7890 1"
+=> button ok 2 7 10 "~O~K" ok default
+=> end
+"#;
+
+#[test]
+fn rows(rt: HostRuntime) -> Result<(), Fail> {
+    expect_answers(&Boxing, rt.alloc(), "", ROWS, "")
+}
+
+const REFUSALS: &str = r#"msgbox
+text 日
+=> the text has a character that isn't one column wide
+yesno
+title 日
+=> the title has a character that isn't one column wide
+msgbox
+ok O~K
+=> a label has a tilde
+checklist 0
+item a~ One
+=> an item has a tilde
+checklist 0
+=> there is no item
+menu 0
+=> there is no item
+checklist 0
+items 17
+=> there are more items than can be shown
+menu 0
+items 101
+=> there are more items than can be shown
+msgbox
+width 133
+=> the box is wider than 132 columns
+msgbox
+height 59
+=> the box is higher than 58 rows
+form
+field 1 1 1 10 0 0 Name: Ada
+=> a field takes no character, or more than 120
+form
+field 1 1 1 10 2 0 Name: Ada
+=> a field begins with more than it takes
+form
+field 1 1 1 10 9 0 Name: Ada
+field 1 1 1 12 9 0 Name: Eve
+=> a field lies outside the form or over another one
+"#;
+
+#[test]
+fn refusals(rt: HostRuntime) -> Result<(), Fail> {
+    expect_answers(&Boxing, rt.alloc(), "", REFUSALS, "")
+}
