@@ -1,7 +1,10 @@
--- Ready dialogs: the rows of a text, sizes, items, views, buttons, and the whole description.
+-- Ready dialogs: the rows of a text, sizes, items, views, buttons, and the whole description; and the arguments that
+-- ask for one.
 pub mod Wrapping
 pub mod Sizes
 pub mod Items
 pub mod Views
 pub mod Buttons
 pub mod Boxes
+pub mod Arguments
+pub mod Asked

@@ -12,6 +12,15 @@ use crate::size::{longest, size};
 use crate::views::{are_few, list_rows};
 use tv_valid::Chars;
 
+/// How large a box is within.
+#[derive(Clone, Copy)]
+pub(crate) struct Extent {
+    /// Columns between the free ones beside the frame.
+    pub columns: u8,
+    /// Rows above the buttons, the last of them free.
+    pub body: u8,
+}
+
 // The columns inside the frame and the free columns beside it.
 fn inside(width: u8) -> u8
     ensures { result ≡ inside width }

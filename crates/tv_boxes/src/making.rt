@@ -9,7 +9,7 @@ ghost use Rattle.tv_boxes.specs.Sizes.{size};
 ghost use Rattle.tv_boxes.specs.Views.{view};
 
 use crate::buttons::Buttons;
-use crate::layout::{body_rows, columns_of, wrap_columns};
+use crate::layout::{Extent, body_rows, columns_of, wrap_columns};
 use crate::request::{BoxKind, Request};
 use crate::size::size;
 use crate::unfit::{Unfit, why_unfit};
@@ -122,21 +122,22 @@ fn desc_of_rows(alloc: Global, request: &Request, rows: &[Chars]) -> Result<Desc
     let buttons = Buttons::new(alloc, &request.kind, &request.labels)?;
     let columns = columns_of(request, rows, &buttons);
     let body = body_rows(request, rows);
-    let views = box_views(alloc, request, rows, columns, body, buttons)?;
-    let dialog = box_dialog(alloc, request, columns, body, views)?;
-    box_desc(alloc, columns, body, dialog)
+    let extent = Extent { columns, body };
+    let views = box_views(alloc, request, rows, extent, buttons)?;
+    let dialog = box_dialog(alloc, request, extent, views)?;
+    box_desc(alloc, extent, dialog)
 }
 
-// A description of a dialog alone, which is open at the start, on a screen of its size.
-fn box_desc(alloc: Global, columns: u8, body: u8, dialog: Dialog) -> Result<Desc, AllocError>
-    ensures { IfOk result (λ desc. desc ≡ box_desc columns body dialog) }
+// A description of a dialog alone, which is open at the start, on a screen that it fills between the first row and the last.
+fn box_desc(alloc: Global, extent: Extent, dialog: Dialog) -> Result<Desc, AllocError>
+    ensures { IfOk result (λ desc. desc ≡ box_desc extent.columns extent.body dialog) }
 {
     let mut dialogs = Sequence::new(alloc);
     dialogs.push(dialog)?;
     Ok(Desc {
         version: Version::One,
-        width: i32::from(u16::from(columns) + 4),
-        height: i32::from(u16::from(body) + 5),
+        width: i32::from(u16::from(extent.columns) + 4),
+        height: i32::from(u16::from(extent.body) + 5),
         start: Some(ascii(alloc, b"box")?),
         menus: Sequence::new(alloc),
         status: Sequence::new(alloc),
@@ -149,21 +150,20 @@ fn box_desc(alloc: Global, columns: u8, body: u8, dialog: Dialog) -> Result<Desc
 fn box_dialog(
     alloc: Global,
     request: &Request,
-    columns: u8,
-    body: u8,
+    extent: Extent,
     views: Vec<Node>,
 ) -> Result<Dialog, AllocError>
-    ensures { IfOk result (λ dialog. dialog ≡ box_dialog request.now columns body views.items) }
+    ensures { IfOk result (λ dialog. dialog ≡ box_dialog request.now extent.columns extent.body views.items) }
 {
     let head = DialogHead {
         name: ascii(alloc, b"box")?,
-        h: i32::from(u16::from(body) + 3),
+        h: i32::from(u16::from(extent.body) + 3),
         title: request.title.copy(alloc)?,
         opens: None,
         ends: ends_of(&request.kind),
     };
     Ok(Dialog {
-        node: view(0, 1, u16::from(columns) + 4, Kind::Dialog(head)),
+        node: view(0, 1, u16::from(extent.columns) + 4, Kind::Dialog(head)),
         views: Sequence::from_vec(views),
         rules: Sequence::new(alloc),
     })
@@ -187,16 +187,15 @@ fn box_views(
     alloc: Global,
     request: &Request,
     rows: &[Chars],
-    columns: u8,
-    body: u8,
+    extent: Extent,
     buttons: Buttons,
 ) -> Result<Vec<Node>, AllocError>
     requires { buttons ≡ buttons_of request.now.kind request.now.labels }
-    ensures { IfOk result (λ views. views.items ≡ box_views request.now rows.now columns body) }
+    ensures { IfOk result (λ views. views.items ≡ box_views request.now rows.now extent.columns extent.body) }
 {
     let above = u16::from(size(rows.len())) + 1;
-    let mut views = text_rows(alloc, columns, rows)?;
-    views.append(&mut field_views(alloc, above, columns, &request.kind)?)?;
-    views.append(&mut buttons.views(alloc, request.default_no, u16::from(body) + 1)?)?;
+    let mut views = text_rows(alloc, extent.columns, rows)?;
+    views.append(&mut field_views(alloc, above, extent.columns, &request.kind)?)?;
+    views.append(&mut buttons.views(alloc, request.default_no, u16::from(extent.body) + 1)?)?;
     Ok(views)
 }

@@ -90,6 +90,7 @@ impl Rows {
             word: Chars::new(alloc),
         })
     }
+
     // Ends a row that has no room: before the word, or in it if that has the row for itself.
     fn turned(self, alloc: Global) -> Result<Rows, AllocError>
         ensures { IfOk result (λ rows. rows ≡ turned self) }

@@ -1,8 +1,8 @@
-//! Ready dialogs: the description of each kind of box, and the boxes that can't be shown.
+//! Ready dialogs: the description of each kind of box, the boxes that can't be shown, and the arguments that ask for one.
 
 use std::alloc::Global;
 use std::test::Fail;
-use tv_boxes::{BoxKind, Choices, FormField, Item, Labels, Request, boxed};
+use tv_boxes::{BoxKind, Choices, FormField, Item, Labels, Refusal, Request, box_text, boxed};
 use tv_test_support::{Question, expect_answers};
 use tv_valid::{Chars, Sequence};
 
@@ -341,4 +341,229 @@ field 1 1 1 12 9 0 Name: Eve
 #[test]
 fn refusals(rt: HostRuntime) -> Result<(), Fail> {
     expect_answers(&Boxing, rt.alloc(), "", REFUSALS, "")
+}
+
+// The description of the box that arguments ask for, one on each line, where `.` stands for an empty one; or why there is none.
+struct Asking;
+
+impl Question for Asking {
+    fn answer(&self, alloc: Global, text: &[u8]) -> Result<String, Fail> {
+        let words = words(alloc, str::from_utf8(text)?)?;
+        match box_text(alloc, words.as_slice()) {
+            Ok(text) => Ok(text),
+            Err(Refusal::Told(why)) => Ok(format!(in alloc; "{why}\n")?),
+            Err(Refusal::NoMemory) => Err(Fail::new("no memory")),
+        }
+    }
+}
+
+fn words(alloc: Global, text: &str) -> Result<Vec<String>, Fail> {
+    let mut words = Vec::new(alloc);
+    for line in text.lines() {
+        let word = if line == "." { "" } else { line };
+        words.push(String::from_str(alloc, word)?)?;
+    }
+    Ok(words)
+}
+
+// What follows a text, its height and its width, by each option.
+const ASKED: &str = r#"--title
+Delete
+--defaultno
+--yes-label
+Do
+--yesno
+Sure?\nReally?
+0
+0
+=> tvd 1
+=> screen 26 10
+=> start box
+=> dialog box 0 1 26 8 "Delete" ends cancel yes no
+=> text 2 1 22 1 "Sure?"
+=> text 2 2 22 1 "Really?"
+=> button no 14 6 10 "~N~o" no default
+=> button yes 2 6 10 "~D~o" yes
+=> end
+--inputbox
+Name?
+8
+30
+Ada
+=> tvd 1
+=> screen 44 10
+=> start box
+=> dialog box 0 1 44 8 "" ends ok cancel
+=> text 2 1 40 1 "Name?"
+=> input text 2 3 40 120 any "Ada"
+=> button ok 2 6 10 "~O~K" ok default
+=> button cancel 14 6 10 "~C~ancel" cancel
+=> end
+--default-item
+b
+--menu
+Which?
+0
+0
+0
+a
+One
+b
+Two
+=> tvd 1
+=> screen 26 10
+=> start box
+=> dialog box 0 1 26 8 "" ends ok cancel
+=> text 2 1 22 1 "Which?"
+=> list choice 2 3 22 2 "a  One" "b  Two" start 2
+=> button ok 2 6 10 "~O~K" ok default
+=> button cancel 14 6 10 "~C~ancel" cancel
+=> end
+--checklist
+Which?
+0
+0
+0
+a
+One
+on
+b
+Two
+maybe
+c
+.
+ON
+=> tvd 1
+=> screen 26 11
+=> start box
+=> dialog box 0 1 26 9 "" ends ok cancel
+=> text 2 1 22 1 "Which?"
+=> checks choice 2 3 22 "a  One" "b  Two" "c  " start 1 3
+=> button ok 2 7 10 "~O~K" ok default
+=> button cancel 14 7 10 "~C~ancel" cancel
+=> end
+--form
+Who?
+0
+0
+1
+Name
+1
+1
+Ada
+1
+8
+10
+0
+=> tvd 1
+=> screen 26 10
+=> start box
+=> dialog box 0 1 26 8 "" ends ok cancel
+=> text 2 1 22 1 "Who?"
+=> text 2 3 4 1 "Name"
+=> input item1 8 3 12 10 any "Ada"
+=> button ok 2 6 10 "~O~K" ok default
+=> button cancel 14 6 10 "~C~ancel" cancel
+=> end
+"#;
+
+#[test]
+fn asked(rt: HostRuntime) -> Result<(), Fail> {
+    expect_answers(&Asking, rt.alloc(), "", ASKED, "")
+}
+
+const MISUSED: &str = "--gauge
+Now
+0
+0
+=> --gauge can't be had
+--title
+A
+--b\u{7}
+=> argument 3 is no option
+menu
+=> argument 1 is no option
+--title
+A
+=> no box is asked for
+--title
+=> argument 2 is missing
+--yesno
+Sure?
+0
+=> argument 4 is missing
+--yesno
+Sure?
+0
+256
+=> argument 4 is no number from 0 to 255
+--yesno
+Sure?
+x
+0
+=> argument 3 is no number from 0 to 255
+--msgbox
+Well
+0
+0
+more
+=> argument 5 is one too many
+--inputbox
+Name?
+0
+0
+Ada
+more
+=> argument 6 is one too many
+--menu
+Which?
+0
+0
+=> argument 5 is missing
+--menu
+Which?
+0
+0
+-1
+=> argument 5 is no number from 0 to 255
+--menu
+Which?
+0
+0
+0
+a
+=> argument 7 is missing
+--radiolist
+Which?
+0
+0
+0
+a
+One
+=> argument 8 is missing
+--form
+Who?
+0
+0
+0
+Name
+1
+1
+Ada
+1
+x
+10
+0
+=> argument 11 is no number from 0 to 255
+--checklist
+Which?
+0
+0
+0
+=> there is no item
+";
+
+#[test]
+fn misused(rt: HostRuntime) -> Result<(), Fail> {
+    expect_answers(&Asking, rt.alloc(), "", MISUSED, "")
 }

@@ -1,0 +1,216 @@
+-- The request that the arguments of `dialog` spell.
+use Rattle.std.specs.Prelude.{◌≡◌, ℕ, ◌&&◌, ◌||◌, ℤ, pos, negsuc, List, [], ◌∷◌, Bool, true, false, bytes_eq, codes, map}
+use Rattle.std.specs.Prelude.{nat_lt, ◌==◌, Option, Some, None, option_and_then, option_map, if◌then◌else◌}
+use Rattle.std.specs.Prelude.{MatchResult, Result}
+use Rattle.std.specs.Str.{chars}
+use Rattle.tv_words.specs.Reading.Numbers.{number_of}
+use Rattle.tv_boxes.specs.declared.asking.BoxName.{BoxName}
+use Rattle.tv_boxes.specs.declared.asking.BoxName.TheVariants as names
+use Rattle.tv_boxes.specs.declared.misuse.Misuse.{Misuse}
+use Rattle.tv_boxes.specs.declared.misuse.Misuse.TheVariants.{NoMemory}
+use Rattle.tv_boxes.specs.declared.request.BoxKind.{BoxKind}
+use Rattle.tv_boxes.specs.declared.request.BoxKind.TheVariants as boxes
+use Rattle.tv_boxes.specs.declared.request.Choices.{Choices}
+use Rattle.tv_boxes.specs.declared.request.FormField.{FormField}
+use Rattle.tv_boxes.specs.declared.request.Item.{Item}
+use Rattle.tv_boxes.specs.declared.request.Request.{Request}
+use Rattle.tv_boxes.specs.declared.settings.Setting.{Setting}
+use Rattle.tv_boxes.specs.declared.settings.Setting.TheVariants as settings
+use Rattle.tv_boxes.specs.declared.settings.Settings.{Settings}
+use Rattle.tv_boxes.specs.Buttons.{standard_labels}
+
+-- ---- words
+
+-- the characters of words, from their bytes
+abbrev pub words_in : List (List ℕ) → List (List ℕ)
+words_in words = map chars words
+
+-- a number of rows or columns
+abbrev pub byte_in : ℤ → Option ℕ
+byte_in (pos n) = if nat_lt n 256 then Some n else None
+byte_in (negsuc n) = None
+
+-- the number from 0 to 255 of which this is the text
+abbrev pub number_in : List ℕ → Option ℕ
+number_in word = option_and_then byte_in (number_of word)
+
+-- the text, with a line feed for each `\n` that is written out
+abbrev pub with_breaks : List ℕ → List ℕ
+with_breaks [] = []
+with_breaks (c ∷ []) = c ∷ []
+with_breaks (c ∷ d ∷ cs) =
+    if (c == 92) && (d == 110) then 10 ∷ with_breaks cs else c ∷ with_breaks (d ∷ cs)
+
+-- ---- options before that of a box
+
+-- those of a box without options
+abbrev pub standard_settings : Settings
+standard_settings = record { title = []; labels = standard_labels; default_no = false; chosen = None }
+
+-- what an option sets by the word behind it
+abbrev pub setting_named : List ℕ → Option Setting
+setting_named option =
+    if bytes_eq option (codes "--title") then Some settings.Title
+    else if bytes_eq option (codes "--yes-label") then Some settings.Yes
+    else if bytes_eq option (codes "--no-label") then Some settings.No
+    else if bytes_eq option (codes "--ok-label") then Some settings.Ok
+    else if bytes_eq option (codes "--cancel-label") then Some settings.Cancel
+    else if bytes_eq option (codes "--default-item") then Some settings.Chosen
+    else None
+
+abbrev pub with_setting : Setting → List ℕ → Settings → Settings
+with_setting settings.Title word s = record s { title = word }
+with_setting settings.Yes word s = record s { labels = record s.labels { yes = word } }
+with_setting settings.No word s = record s { labels = record s.labels { no = word } }
+with_setting settings.Ok word s = record s { labels = record s.labels { ok = word } }
+with_setting settings.Cancel word s = record s { labels = record s.labels { cancel = word } }
+with_setting settings.Chosen word s = record s { chosen = Some word }
+
+-- ---- items and fields
+
+-- the tag is that of the item that a menu begins with
+abbrev pub is_chosen : Option (List ℕ) → List ℕ → Bool
+is_chosen None tag = false
+is_chosen (Some word) tag = bytes_eq word tag
+
+-- a tag and a text for each item of a menu
+abbrev pub menu_items : Option (List ℕ) → List (List ℕ) → Option (List Item)
+menu_items chosen [] = Some []
+menu_items chosen (tag ∷ []) = None
+menu_items chosen (tag ∷ text ∷ words) =
+    option_map (λ items. record { tag = tag; text = text; is_on = is_chosen chosen tag } ∷ items)
+    (menu_items chosen words)
+
+-- the item is on; any other word than these says that it is off
+abbrev pub is_on : List ℕ → Bool
+is_on status = bytes_eq status (codes "on") || bytes_eq status (codes "ON")
+
+-- a tag, a text and a status for each item
+abbrev pub marked_items : List (List ℕ) → Option (List Item)
+marked_items [] = Some []
+marked_items (tag ∷ text ∷ status ∷ words) =
+    option_map (λ items. record { tag = tag; text = text; is_on = is_on status } ∷ items) (marked_items words)
+marked_items _ = None
+
+-- the rows of a list, and its items
+abbrev pub choices_from : Option ℕ → Option (List Item) → Option Choices
+choices_from (Some rows) (Some items) = Some (record { rows = rows; items = items })
+choices_from _ _ = None
+
+-- a field of a form, if these are numbers
+abbrev pub field_from : (label start : List ℕ) → (label_row label_column row column width longest : Option ℕ) → Option FormField
+field_from label start (Some label_row) (Some label_column) (Some row) (Some column) (Some width) (Some longest) =
+    Some (record {
+      label = label;
+      label_row = label_row;
+      label_column = label_column;
+      start = start;
+      row = row;
+      column = column;
+      width = width;
+      longest = longest;
+    })
+field_from label start _ _ _ _ _ _ = None
+
+-- the field of the first eight words: its label, the row and column of that, its text, and its row, its column, its
+-- width and the most characters that it takes
+abbrev pub field_in : List (List ℕ) → Option FormField
+field_in (label ∷ label_row ∷ label_column ∷ start ∷ row ∷ column ∷ width ∷ longest ∷ words) =
+    field_from label start (number_in label_row) (number_in label_column) (number_in row) (number_in column)
+    (number_in width) (number_in longest)
+field_in _ = None
+
+-- one field and more
+abbrev pub with_field : Option FormField → Option (List FormField) → Option (List FormField)
+with_field (Some field) (Some fields) = Some (field ∷ fields)
+with_field _ _ = None
+
+-- eight words for each field
+abbrev pub fields_in : List (List ℕ) → Option (List FormField)
+fields_in [] = Some []
+fields_in (label ∷ label_row ∷ label_column ∷ start ∷ row ∷ column ∷ width ∷ longest ∷ words) =
+    with_field
+    (field_in (label ∷ label_row ∷ label_column ∷ start ∷ row ∷ column ∷ width ∷ longest ∷ words))
+    (fields_in words)
+fields_in _ = None
+
+-- ---- boxes
+
+-- the box that an option asks for
+abbrev pub box_named : List ℕ → Option BoxName
+box_named option =
+    if bytes_eq option (codes "--yesno") then Some names.YesNo
+    else if bytes_eq option (codes "--msgbox") then Some names.Message
+    else if bytes_eq option (codes "--inputbox") then Some names.Input
+    else if bytes_eq option (codes "--menu") then Some names.Menu
+    else if bytes_eq option (codes "--checklist") then Some names.CheckList
+    else if bytes_eq option (codes "--radiolist") then Some names.RadioList
+    else if bytes_eq option (codes "--form") then Some names.Form
+    else None
+
+-- a form of so many rows, which it has anyhow
+abbrev pub form_from : Option ℕ → Option (List FormField) → Option BoxKind
+form_from (Some rows) (Some fields) = Some (boxes.Form fields)
+form_from _ _ = None
+
+-- what a box asks, by the words behind its width
+abbrev pub kind_in : BoxName → Option (List ℕ) → List (List ℕ) → Option BoxKind
+kind_in names.YesNo chosen [] = Some boxes.YesNo
+kind_in names.Message chosen [] = Some boxes.Message
+kind_in names.Input chosen [] = Some (boxes.Input [])
+kind_in names.Input chosen (start ∷ []) = Some (boxes.Input start)
+kind_in names.Menu chosen (rows ∷ words) =
+    option_map boxes.Menu (choices_from (number_in rows) (menu_items chosen words))
+kind_in names.CheckList chosen (rows ∷ words) =
+    option_map boxes.CheckList (choices_from (number_in rows) (marked_items words))
+kind_in names.RadioList chosen (rows ∷ words) =
+    option_map boxes.RadioList (choices_from (number_in rows) (marked_items words))
+kind_in names.Form chosen (rows ∷ words) = form_from (number_in rows) (fields_in words)
+kind_in _ chosen _ = None
+
+-- a box of these parts
+abbrev pub request_from : Settings → List ℕ → (height width : Option ℕ) → Option BoxKind → Option Request
+request_from s text (Some height) (Some width) (Some kind) = Some (record {
+  title = s.title;
+  text = with_breaks text;
+  height = height;
+  width = width;
+  labels = s.labels;
+  default_no = s.default_no;
+  kind = kind;
+})
+request_from s text _ _ _ = None
+
+-- the words behind the option of a box
+abbrev pub box_in : Settings → Option BoxName → List (List ℕ) → Option Request
+box_in s (Some name) (text ∷ height ∷ width ∷ words) =
+    request_from s text (number_in height) (number_in width) (kind_in name s.chosen words)
+box_in s _ _ = None
+
+abbrev mutual
+  -- options, then that of a box
+  pub read_from : Settings → List (List ℕ) → Option Request
+  read_from s [] = None
+  read_from s (option ∷ words) =
+      if bytes_eq option (codes "--defaultno") then read_from (record s { default_no = true }) words
+      else behind_option s option (setting_named option) words
+
+  -- the words behind an option
+  pub behind_option : Settings → List ℕ → Option Setting → List (List ℕ) → Option Request
+  behind_option s option None words = box_in s (box_named option) words
+  behind_option s option (Some setting) [] = None
+  behind_option s option (Some setting) (word ∷ words) = read_from (with_setting setting word s) words
+
+-- the request that words spell
+abbrev pub request_in : List (List ℕ) → Option Request
+request_in words = read_from standard_settings words
+
+-- ---- what is answered
+
+-- unless memory ran out, nothing is spelled
+abbrev pub Refuses : {T : Type 0} → Option T → Misuse → Type 0
+Refuses found misuse = ¬ (misuse ≡ NoMemory) → found ≡ None
+
+-- what is spelled is answered, or that nothing is
+abbrev pub Reads : {T : Type 0} → Option T → Result T Misuse → Type 0
+Reads found answer = MatchResult answer (λ value. found ≡ Some value) (Refuses found)
