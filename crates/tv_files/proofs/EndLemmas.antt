@@ -26,7 +26,7 @@ use Rattle.tv_program.specs.Terminal.PlaysText.{refused as refused_play, unbegun
 use Rattle.tv_files.specs.declared.done.Done.{Done}
 use Rattle.tv_files.specs.declared.no_task.NoTask.{NoTask}
 use Rattle.tv_files.specs.declared.task.Task.{Task}
-use Rattle.tv_files.specs.declared.task.Task.TheVariants.{Check, Accept, Run, Play, Picture, PictureAll, Fill, Answer, Explain, ExplainBoth, Version}
+use Rattle.tv_files.specs.declared.task.Task.TheVariants.{Check, Accept, Run, Play, Picture, PictureAll, Fill, Answer, Box, Explain, ExplainBoth, Version}
 use Rattle.tv_files.specs.Ends.{End}
 use Rattle.tv_files.specs.EndsWith.{EndsWith}
 use Rattle.tv_files.specs.Files.{Known}
@@ -157,6 +157,7 @@ module _ (P Q : Desc → Type 0) (weaker : (text : List ℕ) (d : Desc) → IsSo
   Performs-weaker (Fill file answers) old new how end came = came
   Performs-weaker (Answer file answers) old new how end came =
       (came.0, came.1, AnswersFiles-weaker old.files new.files file.now answers.now (written_of old) (written_of new) end came.2)
+  Performs-weaker (Box words) old new how end came = came
   Performs-weaker (Explain file manner) old new how end came = came
   Performs-weaker (ExplainBoth file other manner) old new how end came = came
   Performs-weaker Version old new how end came = came

@@ -1,5 +1,5 @@
 -- How a task ends.
-use Rattle.std.specs.Prelude.{ℕ, List, Result, Ok, Err}
+use Rattle.std.specs.Prelude.{ℕ, List, Result, Ok, Err, string_bytes}
 use Rattle.tv_program.specs.declared.album.AlbumFault.TheVariants as albums
 use Rattle.tv_program.specs.declared.album.AlbumFault.{AlbumFault}
 use Rattle.tv_program.specs.declared.picture_fault.DrawingFault.{DrawingFault}
@@ -22,16 +22,18 @@ use Rattle.tv_io.specs.declared.read_fault.ReadFault.{ReadFault}
 use Rattle.tv_io.specs.declared.read_fault.ReadFault.TheVariants as unread
 
 -- all was done; or there was a fault, with the path of the file that it is told of; or a picture can't be
--- written into the file of its path
+-- written into the file of its path; or no box is made, for what the message says
 pub data End : Type 0 where
   ended : End
   faulted : Trouble → (path : List ℕ) → End
   unwritten : (path : List ℕ) → End
+  unboxed : (message : List ℕ) → End
 
 -- the end that a failure tells
 abbrev pub end_of_failure : Failure → End
 end_of_failure (failures.Fault fault path) = faulted fault path.now
 end_of_failure (failures.Picture script number) = unwritten (shot_name script.now number)
+end_of_failure (failures.Box message) = unboxed (string_bytes message)
 
 -- the end that an answer tells
 abbrev pub end_of : {T : Type 0} → Result T Failure → End

@@ -1,3 +1,5 @@
+-- What writing the description of a box comes to
+pub mod Boxes
 -- How the program ends
 pub mod EndsWith
 -- How a task ends

@@ -1,11 +1,12 @@
 -- What every task comes to.
-use Rattle.std.specs.Prelude.{◌≡◌, ℕ, List}
+use Rattle.std.specs.Prelude.{◌≡◌, ℕ, List, map, string_bytes}
 use Rattle.tv_model.specs.declared.desc.Desc.{Desc}
 use Rattle.tv_files.specs.declared.done.Done.{Done}
 use Rattle.tv_files.specs.declared.done.Done.TheVariants.{Whole}
 use Rattle.tv_files.specs.declared.task.Task.{Task}
 use Rattle.tv_files.specs.declared.task.Task.TheVariants.{Check, Accept, Run, Play, Picture, PictureAll}
-use Rattle.tv_files.specs.declared.task.Task.TheVariants.{Fill, Answer, Explain, ExplainBoth, Version}
+use Rattle.tv_files.specs.declared.task.Task.TheVariants.{Fill, Answer, Box, Explain, ExplainBoth, Version}
+use Rattle.tv_files.specs.Boxes.{WritesBox}
 use Rattle.tv_files.specs.Ends.{End}
 use Rattle.tv_files.specs.Explaining.{ExplainsFile, ExplainsFiles}
 use Rattle.tv_files.specs.Filling.{AnswersFiles, FillsFiles}
@@ -51,6 +52,8 @@ PerformsTask Mismade (Fill file answers) old new how end =
 PerformsTask Mismade (Answer file answers) old new how end =
     IsUnplayed old new × (how ≡ Whole)
     × AnswersFiles Mismade old.files new.files file.now answers.now (written_of old) (written_of new) end
+PerformsTask Mismade (Box words) old new how end =
+    (new ≡ record old { out = new.out }) × (how ≡ Whole) × WritesBox (map string_bytes words.now) old.out new.out end
 PerformsTask Mismade (Explain file manner) old new how end =
     IsQuiet old new × ExplainsFile manner old.files new.files file.now old.out new.out how end
 PerformsTask Mismade (ExplainBoth file beside manner) old new how end =

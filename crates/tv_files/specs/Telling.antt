@@ -9,7 +9,7 @@ use Rattle.tv_files.specs.declared.done.Done.TheVariants.{Whole, Faulty, BrokenO
 use Rattle.tv_files.specs.declared.no_task.NoTask.{NoTask}
 use Rattle.tv_files.specs.declared.no_task.NoTask.TheVariants as no_tasks
 use Rattle.tv_files.specs.Ends.{End}
-use Rattle.tv_files.specs.Ends.End.{ended, faulted, unwritten}
+use Rattle.tv_files.specs.Ends.End.{ended, faulted, unboxed, unwritten}
 use Rattle.tv_files.specs.Streams.{IsWritten, Offers}
 
 -- what standard output is offered
@@ -17,10 +17,15 @@ abbrev pub out_told : End → List ℕ
 out_told ended = []
 out_told (faulted fault path) = out_text fault
 out_told (unwritten path) = []
+out_told (unboxed message) = []
 
 -- the message of a picture that can't be written into the file of its path
 abbrev pub unwritten_message : (path : List ℕ) → List ℕ
 unwritten_message path = line_of (codes "tvdlg: ") (codes "cannot write " ++ path)
+
+-- the message where no box is made
+abbrev pub unboxed_message : (message : List ℕ) → List ℕ
+unboxed_message message = line_of (codes "tvdlg: ") (codes "box: " ++ message)
 
 -- the message on standard error; that standard output failed is told below, where it is flushed
 abbrev pub err_told : End → List ℕ
@@ -28,6 +33,7 @@ err_told ended = []
 err_told (faulted Write path) = []
 err_told (faulted fault path) = err_text path fault
 err_told (unwritten path) = unwritten_message path
+err_told (unboxed message) = unboxed_message message
 
 -- the message where standard output failed
 abbrev pub cannot_write : List ℕ
@@ -40,6 +46,7 @@ status_told Faulty ended = 1
 status_told BrokenOff ended = 4
 status_told done (faulted fault path) = status_of fault
 status_told done (unwritten path) = 3
+status_told done (unboxed message) = 1
 
 -- standard output took all that was to be told, and the status is that of the end; or it failed, which is
 -- told too

@@ -15,6 +15,8 @@ pub enum Failure<'a> {
     Fault { fault: Trouble, path: &'a str },
     /// The picture with this number of a script can't be written.
     Picture { script: &'a str, number: usize },
+    /// No box is made, for what the message says.
+    Box { message: String },
 }
 
 impl<'a> Failure<'a> {

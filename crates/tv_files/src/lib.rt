@@ -2,6 +2,7 @@
 #![tactic(auto)]
 
 mod answering;
+mod boxes;
 mod done;
 mod explaining;
 mod failure;
@@ -21,6 +22,7 @@ mod timed_read;
 mod world;
 
 pub use answering::answer_file;
+pub use boxes::write_box;
 pub use done::Done;
 pub use explaining::{explain_file, explain_files};
 pub use failure::Failure;

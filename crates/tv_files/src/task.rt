@@ -43,6 +43,10 @@ pub enum Task<'a> {
         file: &'a str,
         answers: &'a str,
     },
+    /// The description of the box that the arguments of `dialog` ask for.
+    Box {
+        words: &'a [String],
+    },
     /// What there is to tell of the faults of a description, or of the lines that can't be read.
     Explain {
         file: &'a str,

@@ -12,6 +12,7 @@ ghost use Rattle.tv_files.specs.Tasks.{IsUnopened, IsUnread, IsUnspelled, RunsFi
 ghost use Rattle.tv_files.specs.World.{known_world};
 
 use crate::answering::answer_file;
+use crate::boxes::write_box;
 use crate::explaining::{explain_file, explain_files};
 use crate::failure::Failure;
 use crate::file_store::FileStore;
@@ -92,6 +93,7 @@ pub fn perform<
             let err = &mut world.err;
             whole(answer_file(&mut world.files, alloc, paths, views, out, err))
         }
+        Task::Box { words } => whole(write_box(alloc, words, &mut world.out)),
         Task::Explain { file, manner } => {
             let inquiry = Inquiry { file, manner };
             explain_file(&mut world.files, alloc, inquiry, &mut world.out)

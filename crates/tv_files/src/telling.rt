@@ -1,13 +1,13 @@
 //! What is told of a task that ended, and the status.
 
-ghost use Rattle.std.specs.Prelude.{◌≡◌, [], ◌∷◌};
+ghost use Rattle.std.specs.Prelude.{◌≡◌, [], ◌∷◌, string_bytes};
 ghost use Rattle.tv_io.specs.Pen.{Puts};
 ghost use Rattle.tv_program.specs.Naming.{shot_name};
 ghost use Rattle.tv_program.specs.Report.{IsOffered};
 ghost use Rattle.tv_files.specs.Ends.{done_in, end_of, end_of_failure};
 ghost use Rattle.tv_files.specs.declared.done.Done.TheVariants.{Whole};
 ghost use Rattle.tv_files.specs.Streams.{Offers};
-ghost use Rattle.tv_files.specs.Telling.{Tells, TellsNoTask, TellsUsage, err_told, no_memory, out_told, status_told, unwritten_message};
+ghost use Rattle.tv_files.specs.Telling.{Tells, TellsNoTask, TellsUsage, err_told, no_memory, out_told, status_told, unboxed_message, unwritten_message};
 
 use crate::failure::Failure;
 use crate::stream::Stream;
@@ -113,6 +113,10 @@ fn tell_failure<O: Writer, E: Writer>(failure: &Failure<'_>, out: &mut O, err: &
             tell_unwritten(script, *number, err);
             OUTSIDE
         }
+        Failure::Box { message } => {
+            tell_unboxed(message, err);
+            FAULTY
+        }
     }
 }
 
@@ -135,6 +139,26 @@ fn put_unwritten<W: Writer>(pen: &mut Pen<W>, script: &[u8], number: usize)
     pen.put(b"-");
     pen.put_place(number);
     pen.put(b".svg\n");
+}
+
+// Tells why no box is made.
+fn tell_unboxed<W: Writer>(message: &String, err: &mut W)
+    ensures { IsOffered (W.seen err.old) (W.seen err.new) (unboxed_message (string_bytes message.now)) }
+{
+    let mut pen = Pen {
+        out: err,
+        stopped: false,
+    };
+    put_unboxed(&mut pen, message.as_bytes());
+}
+
+fn put_unboxed<W: Writer>(pen: &mut Pen<W>, message: &[u8])
+    ensures { Puts W.seen pen.old pen.new (unboxed_message message.now) }
+{
+    pen.put(b"tvdlg: ");
+    pen.put(b"box: ");
+    pen.put(message);
+    pen.put(b"\n");
 }
 
 fn tell_last<E: Stream>(text: &[u8], err: &mut E)

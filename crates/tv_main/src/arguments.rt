@@ -8,6 +8,9 @@ use tv_files::{Manner, NoTask, Task};
 /// What the program is at.
 const VERSION: &str = "1.0.0";
 
+/// The name of the subcommand whose words aren't read by clap.
+const BOX: &str = "box";
+
 /// The text below the help of the program and of each subcommand.
 const STATUSES: &str = "Statuses: 0 done; 1 faults, a refusal or a bad text; 2 usage; \
     3 a file, a stream or memory failed; 4 the user left, or his input ended. Messages go to standard error, all else that is printed to standard output.\n\
@@ -73,6 +76,24 @@ log of that, as `run` prints it, and so answers again.
 Nothing is done, and the status is 1, where something doesn't fit the description or
 nothing is answered. A dialog that doesn't end, because a field refuses or its rules
 disable the end, is told of with status 1; those before it were ended.";
+
+/// What `box` takes and prints.
+const BOXES: &str = "\
+Prints the description of a ready dialog, which the arguments of `dialog` ask for
+
+The options come first, then one box:
+  --title TEXT, --yes-label TEXT, --no-label TEXT, --ok-label TEXT,
+  --cancel-label TEXT, --defaultno, --default-item TAG
+  --yesno TEXT HEIGHT WIDTH
+  --msgbox TEXT HEIGHT WIDTH
+  --inputbox TEXT HEIGHT WIDTH [START]
+  --menu TEXT HEIGHT WIDTH ROWS {TAG ITEM}..
+  --checklist TEXT HEIGHT WIDTH ROWS {TAG ITEM on|off}..
+  --radiolist TEXT HEIGHT WIDTH ROWS {TAG ITEM on|off}..
+  --form TEXT HEIGHT WIDTH ROWS {LABEL Y X START Y X WIDTH MOST}..
+
+A size of 0 is as large as is needed. tools/tvask plays what is printed, and answers
+as `dialog` does.";
 
 /// What `explain` prints.
 const EXPLANATIONS: &str = "\
@@ -213,6 +234,19 @@ fn log<'a>(alloc: Global) -> Arg<'a> {
     )
 }
 
+fn boxes<'a>(alloc: Global) -> Result<Command<'a>, AllocError> {
+    Command::new(alloc, BOX)
+        .about("Prints the description of a ready dialog, which the arguments of `dialog` ask for")
+        .long_about(BOXES)
+        .after_help(STATUSES)
+        .arg(path(
+            alloc,
+            "ARGUMENTS",
+            "The arguments of `dialog`, as they stand",
+        )
+        .num_args(1..))
+}
+
 fn explain<'a>(alloc: Global) -> Result<Command<'a>, AllocError> {
     subcommand(
         alloc,
@@ -253,6 +287,7 @@ fn command<'a>(alloc: Global) -> Result<Command<'a>, AllocError> {
         .subcommand(picture(alloc)?)?
         .subcommand(fill(alloc)?)?
         .subcommand(answer(alloc)?)?
+        .subcommand(boxes(alloc)?)?
         .subcommand(explain(alloc)?)
 }
 
@@ -271,6 +306,9 @@ pub fn read_task<'a>(alloc: Global, words: &'a [String]) -> Result<Task<'a>, NoT
 
 /// Reads the words of the command line. Help is an error too, and carries its text.
 pub fn parse<'a>(alloc: Global, words: &'a [String]) -> Result<Task<'a>, Error> {
+    if let Some(task) = box_task(words) {
+        return Ok(task);
+    }
     let matches = command(alloc)?.try_get_matches_from(words)?;
     match matches.subcommand() {
         Some((name, found)) => match named_task(name, found) {
@@ -278,6 +316,24 @@ pub fn parse<'a>(alloc: Global, words: &'a [String]) -> Result<Task<'a>, Error> 
             None => Err(no_task(alloc)?),
         },
         None => Err(no_task(alloc)?),
+    }
+}
+
+// What follows `box` stands as it is, since it has options of its own.
+fn box_task<'a>(words: &'a [String]) -> Option<Task<'a>> {
+    match words {
+        [_, name, words @ ..] if name.as_str() == BOX && !is_help(words) => Some(Task::Box {
+            words,
+        }),
+        _ => None,
+    }
+}
+
+// Whether help is asked for, or nothing is.
+fn is_help(words: &[String]) -> bool {
+    match words {
+        [] => true,
+        [word, ..] => matches!(word.as_str(), "-h" | "--help"),
     }
 }
 

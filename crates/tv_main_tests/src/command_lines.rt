@@ -47,6 +47,7 @@ fn task_told(alloc: Global, task: Task<'_>) -> Result<String, AllocError> {
         Task::PictureAll { file, script } => format!(in alloc; "draws {file} all along {script}\n"),
         Task::Fill { file, answers } => format!(in alloc; "fills {file} with {answers}\n"),
         Task::Answer { file, answers } => format!(in alloc; "ends {file} by {answers}\n"),
+        Task::Box { words } => boxes(alloc, words),
         Task::Explain { file, manner } => format!(in alloc; "explains {file}: {manner:?}\n"),
         Task::ExplainBoth {
             file,
@@ -55,6 +56,16 @@ fn task_told(alloc: Global, task: Task<'_>) -> Result<String, AllocError> {
         } => format!(in alloc; "explains {file} and {beside}: {manner:?}\n"),
         Task::Version => format!(in alloc; "tells its version\n"),
     }
+}
+
+fn boxes(alloc: Global, words: &[String]) -> Result<String, AllocError> {
+    let mut told = String::from_str(alloc, "boxes")?;
+    for word in words {
+        told.push(' ')?;
+        told.push_str(word.as_str())?;
+    }
+    told.push('\n')?;
+    Ok(told)
 }
 
 const LINES: &str = "tvdlg check a.tvd
@@ -75,6 +86,10 @@ tvdlg fill a.tvd a.log
 => fills a.tvd with a.log
 tvdlg answer a.tvd a.log
 => ends a.tvd by a.log
+tvdlg box --yesno Sure? 0 0
+=> boxes --yesno Sure? 0 0
+tvdlg box --title -h -- --help
+=> boxes --title -h -- --help
 tvdlg explain a.tvd
 => explains a.tvd: Plain
 tvdlg explain a.tvd --color=always
@@ -120,6 +135,10 @@ tvdlg fill a.tvd
 => MissingRequiredArgument
 tvdlg answer a.tvd
 => MissingRequiredArgument
+tvdlg box
+=> MissingRequiredArgument
+tvdlg box --help
+=> DisplayHelp
 tvdlg fill a.tvd a.log b.log
 => UnknownArgument
 tvdlg run --all a.tvd a.tvs

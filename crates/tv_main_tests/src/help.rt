@@ -29,6 +29,7 @@ Commands:
   picture  Performs a script on a description, and prints the screen that it leaves as SVG
   fill     Prints a description whose fields begin with answers
   answer   Gives answered dialogs their ends without a user, and prints what happens
+  box      Prints the description of a ready dialog, which the arguments of `dialog` ask for
   explain  Tells of each fault of a description where it is, why it is one and how to mend it
   help     Print this message or the help of the given subcommand(s)
 
@@ -232,6 +233,38 @@ Statuses: 0 done; 1 faults, a refusal or a bad text; 2 usage; 3 a file, a stream
 Help goes to standard error too, with status 2.
 ";
 
+const BOX: &str = "\
+Prints the description of a ready dialog, which the arguments of `dialog` ask for
+
+The options come first, then one box:
+  --title TEXT, --yes-label TEXT, --no-label TEXT, --ok-label TEXT,
+  --cancel-label TEXT, --defaultno, --default-item TAG
+  --yesno TEXT HEIGHT WIDTH
+  --msgbox TEXT HEIGHT WIDTH
+  --inputbox TEXT HEIGHT WIDTH [START]
+  --menu TEXT HEIGHT WIDTH ROWS {TAG ITEM}..
+  --checklist TEXT HEIGHT WIDTH ROWS {TAG ITEM on|off}..
+  --radiolist TEXT HEIGHT WIDTH ROWS {TAG ITEM on|off}..
+  --form TEXT HEIGHT WIDTH ROWS {LABEL Y X START Y X WIDTH MOST}..
+
+A size of 0 is as large as is needed. tools/tvask plays what is printed, and answers
+as `dialog` does.
+
+Usage: tvdlg box <ARGUMENTS>...
+
+Arguments:
+  <ARGUMENTS>...
+          The arguments of `dialog`, as they stand
+
+Options:
+  -h, --help
+          Print help (see a summary with '-h')
+
+Statuses: 0 done; 1 faults, a refusal or a bad text; 2 usage; 3 a file, a stream or memory failed; \
+4 the user left, or his input ended. Messages go to standard error, all else that is printed to standard output.
+Help goes to standard error too, with status 2.
+";
+
 const EXPLAIN: &str = "\
 Tells of each fault of a description where it is, why it is one and how to mend it
 
@@ -286,6 +319,7 @@ fn whole_help(rt: HostRuntime) -> Result<(), Fail> {
             ("tvdlg picture --help", PICTURE),
             ("tvdlg fill --help", FILL),
             ("tvdlg answer --help", ANSWER),
+            ("tvdlg box --help", BOX),
             ("tvdlg explain --help", EXPLAIN),
         ],
     )

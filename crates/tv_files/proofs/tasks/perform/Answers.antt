@@ -25,6 +25,9 @@ returns-in-Fill g c = rw c.in-Fill.is (refl, c.whole-in-Fill.ensures.done, rw c.
 pub returns-in-Answer : goal.returns-in-Answer
 returns-in-Answer g c = rw c.in-Answer.is (refl, c.whole-in-Answer.ensures.done, rw c.whole-in-Answer.ensures.end c.answer_file.ensures)
 
+pub returns-in-Box : goal.returns-in-Box
+returns-in-Box g c = rw c.in-Box.is (refl, c.whole-in-Box.ensures.done, rw c.whole-in-Box.ensures.end c.write_box.ensures)
+
 pub returns-in-Explain : goal.returns-in-Explain
 returns-in-Explain g c = rw c.in-Explain.is (refl, c.explain_file.ensures)
 
