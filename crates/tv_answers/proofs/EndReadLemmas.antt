@@ -6,7 +6,7 @@ use Rattle.std.specs.Char.{is_ascii_lowercase}
 use Rattle.std.specs.List.{AllByRecursion, list_all, range_with_len}
 use Rattle.std.proofs.lemmas.Bool.{and_parts}
 use Rattle.std.proofs.lemmas.Bool.Decides.{nat_tests}
-use Rattle.std.proofs.lemmas.List.Elements.{All-from_recursion, All-head, All-tail}
+use Rattle.std.proofs.lemmas.List.Elements.{All-from_recursion, All-head, All-tail, All-weaker}
 use Rattle.std.proofs.lemmas.Option.{get_or_from_slice_get, slice_get_within}
 use Rattle.tv_valid.specs.Domain.{InDomain, IsViableText}
 use Rattle.tv_valid.proofs.Beginnings.{accepted_viable}
@@ -26,7 +26,7 @@ use Rattle.tv_machine.proofs.LeafLemmas.{ids-apart, leaf_id}
 use Rattle.tv_machine.proofs.ListLemmas.{AreApart, bool_cases, found-all, found-passes, same-id}
 use Rattle.tv_machine.specs.Dialog.Sound.{IsSoundDialog}
 use Rattle.tv_machine.specs.Leaves.{leaf_list}
-use Rattle.tv_machine.specs.Safe.{IsSafeEntry, IsSafeRecord, IsValueOf, is_field}
+use Rattle.tv_machine.specs.Safe.{IsSafeEntry, IsSafeRecord, IsValueOf, field_ids, is_field}
 use Rattle.tv_model.specs.declared.desc.Desc.{Desc}
 use Rattle.tv_model.specs.declared.desc.Dialog.{Dialog}
 use Rattle.tv_model.specs.declared.kind.Kind.{Kind}
@@ -155,20 +155,29 @@ named_field k (values.Item item) h = absurd h
 
 -- ---- a dialog of a sound description
 
-all_at : {A : Type 0} (P : A → Type 0) (xs : List A) (place : ℕ) (x : A) → All P xs → slice_get xs place ≡ Some x → P x
+-- a value that the field of the entry may have while it is typed
+pub record IsTypedEntry (dialog : Dialog) (entry : Entry) : Type 0 where
+  pub node : Node
+  pub there : node_of dialog.views entry.id ≡ Some node
+  pub value : IsValueOf IsViableText node.kind entry.value
+
+pub safe_typed : (dialog : Dialog) (e : Entry) → IsSafeEntry dialog e → IsTypedEntry dialog e
+safe_typed dialog e x = record { node = x.node; there = x.there; value = viable x.node.kind e.value x.value }
+
+pub all_at : {A : Type 0} (P : A → Type 0) (xs : List A) (place : ℕ) (x : A) → All P xs → slice_get xs place ≡ Some x → P x
 all_at P xs place x all there = subst P (get_or_from_slice_get xs place x x there) (all place x (slice_get_within xs place x there))
 
 module _ (d : Desc) (can : CanBeSpelled d) (sound : IsSound d) (place : ℕ) (dialog : Dialog) (there : slice_get d.dialogs place ≡ Some dialog) where
-  says : Sound d
+  pub says : Sound d
   says = sound_says d sound
 
   is : IsDescription d
   is = can.1.can
 
-  spelled : IsSpelledDialog dialog
+  pub spelled : IsSpelledDialog dialog
   spelled = all_at IsSpelledDialog d.dialogs place dialog (All-from_recursion IsSpelledDialog d.dialogs (dialogs_spelled d can)) there
 
-  found : All (λ node. node_of (all_nodes d) node.id ≡ Some node) (dialog_nodes dialog)
+  pub found : All (λ node. node_of (all_nodes d) node.id ≡ Some node) (dialog_nodes dialog)
   found = own_found d is place dialog there
 
   -- ---- its name
@@ -176,7 +185,7 @@ module _ (d : Desc) (can : CanBeSpelled d) (sound : IsSound d) (place : ℕ) (di
   own_logged : logged_name d dialog.node.id ≡ (dialog_head dialog).name
   own_logged = ap name_of_node (All-head (λ node. node_of (all_nodes d) node.id ≡ Some node) dialog.node dialog.views found) ∙ ap (λ o. unwrap_or o []) (head_named dialog.node.kind dialog.own_kind)
 
-  own_name : IsName (logged_name d dialog.node.id)
+  pub own_name : IsName (logged_name d dialog.node.id)
   own_name = subst IsName (sym own_logged) (subst (λ o. IfSome o IsName) (head_named dialog.node.kind dialog.own_kind) (kind_named dialog.node.kind spelled.own))
 
   own_place : position (is_named (logged_name d dialog.node.id)) d.dialogs ≡ Some place
@@ -186,18 +195,18 @@ module _ (d : Desc) (can : CanBeSpelled d) (sound : IsSound d) (place : ℕ) (di
 
   -- ---- its fields
 
-  usable : IsUsableDialog d dialog
+  pub usable : IsUsableDialog d dialog
   usable = all_at (IsUsableDialog d) d.dialogs place dialog (sound_usable d sound).dialogs there
 
   names : AllPairs HaveOtherNames dialog.views
   names = all_at (λ (own : Dialog). AllPairs HaveOtherNames own.views) d.dialogs place dialog ((bodies d (λ body. AllPairs HaveOtherNames body.views)).0 says.names.views).1 there
 
-  entry_read : (e : Entry) → IsSafeEntry dialog e → HasCharacters e.value → IsReadEntry d dialog e × CanBeLogged e.value
+  entry_read : (e : Entry) → IsTypedEntry dialog e → HasCharacters e.value → IsReadEntry d dialog e × CanBeLogged e.value
   entry_read e x has =
       let node : Node = x.node in
       let at : (P : Node → Type 0) → All P dialog.views → P node = λ P all. found-all P (has_id e.id) dialog.views node all x.there in
       let id : node.id ≡ e.id = same-id node.id e.id (found-passes (has_id e.id) dialog.views node x.there) in
-      let value = viable node.kind e.value x.value in
+      let value = x.value in
       let own = named_field node.kind e.value value in
       let count : HasLawfulCount node.kind = (at IsLimited (All-tail IsLimited dialog.node dialog.views usable.nodes)).count in
       let domain : HasLawfulDomain node.kind = at (λ view. HasLawfulDomain view.kind) (All-tail (λ view. HasLawfulDomain view.kind) dialog.node dialog.views (nodes_at (λ view. HasLawfulDomain view.kind) d place dialog says.domains there)) in
@@ -218,18 +227,18 @@ module _ (d : Desc) (can : CanBeSpelled d) (sound : IsSound d) (place : ℕ) (di
         can_be,
       )
 
-  ids_apart : (es : Entries) → IsSafeRecord dialog es → AreApart (map entry_id es)
-  ids_apart es safe =
+  pub ids_apart : (es : Entries) → map (λ entry. entry.id) es ≡ field_ids dialog → AreApart (map entry_id es)
+  ids_apart es fields =
       let own : IsSoundDialog dialog = all_at IsSoundDialog d.dialogs place dialog (sound_dialogs d is sound) there in
-      subst AreApart (sym safe.fields) (kept_apart leaf_id (λ leaf. is_field leaf.node.kind) (leaf_list dialog.views) (ids-apart dialog own.lawful))
+      subst AreApart (sym fields) (kept_apart leaf_id (λ leaf. is_field leaf.node.kind) (leaf_list dialog.views) (ids-apart dialog own.lawful))
 
   -- ---- its end
 
-  entries_read : (es : Entries) → IsSafeRecord dialog es → All (λ e. HasCharacters e.value) es → All (IsReadEntry d dialog) es
-  entries_read es safe has = λ k e less. (entry_read (get_or es k e) (safe.values k e less) (has k e less)).0
+  entries_read : (es : Entries) → All (IsTypedEntry dialog) es → All (λ e. HasCharacters e.value) es → All (IsReadEntry d dialog) es
+  entries_read es typed has = λ k e less. (entry_read (get_or es k e) (typed k e less) (has k e less)).0
 
-  entries_logged : (es : Entries) → IsSafeRecord dialog es → All (λ e. HasCharacters e.value) es → All (λ e. CanBeLogged e.value) es
-  entries_logged es safe has = λ k e less. (entry_read (get_or es k e) (safe.values k e less) (has k e less)).1
+  entries_logged : (es : Entries) → All (IsTypedEntry dialog) es → All (λ e. HasCharacters e.value) es → All (λ e. CanBeLogged e.value) es
+  entries_logged es typed has = λ k e less. (entry_read (get_or es k e) (typed k e less) (has k e less)).1
 
   end_stands : (number : ℕ) → StandInLine (end_words d dialog.node.id number)
   end_stands number = ((common_stands (codes "end") (λ e. cc) refl, (name_stands (logged_name d dialog.node.id) own_name, (end_word_stands number, tt))), refl)
@@ -238,7 +247,7 @@ module _ (d : Desc) (can : CanBeSpelled d) (sound : IsSound d) (place : ℕ) (di
   unfolding encode
   begins_end number = λ xs. refl
 
-  abbrev command_of : ℕ → Command
+  abbrev pub command_of : ℕ → Command
   command_of number = record { 0 = number }
 
   end_line_read : (n : ℕ) (p : Progress) (number : ℕ) → is_end (dialog_head dialog).ends number ≡ true → words_answered d n p (end_words d dialog.node.id number) ≡ Some (ended_by place (command_of number) p.answers)
@@ -248,21 +257,21 @@ module _ (d : Desc) (can : CanBeSpelled d) (sound : IsSound d) (place : ℕ) (di
   abbrev pub after_end : ℕ → Entries → Answers → Progress
   after_end number es a = if number == 11 then passed a else record { answers = entered place es (with_command place (command_of number) a); block = Saved place }
 
-  pub end_lines_read : (n : ℕ) (p : Progress) (number : ℕ) (es : Entries) → is_end (dialog_head dialog).ends number ≡ true → IsSafeRecord dialog es → All (λ e. HasCharacters e.value) es
+  pub end_lines_read : (n : ℕ) (p : Progress) (number : ℕ) (es : Entries) → is_end (dialog_head dialog).ends number ≡ true → All (IsTypedEntry dialog) es → All (λ e. HasCharacters e.value) es
       → AreLines d n p (end_words d dialog.node.id number ∷ map (field_words d) es) (after_end number es p.answers)
-  end_lines_read n p number es declared safe has = (
+  end_lines_read n p number es declared typed has = (
     ended_by place (command_of number) p.answers,
     record { stands = end_stands number; begins = begins_end number; read = end_line_read n p number declared },
     bool_cases (number == 11)
         (λ b. AreLines d (n + 1) (if b then passed p.answers else record { answers = with_command place (command_of number) p.answers; block = Saved place }) (map (field_words d) es)
         (if b then passed p.answers else record { answers = entered place es (with_command place (command_of number) p.answers); block = Saved place }))
-        (λ cancels. fields_passed d place dialog there (n + 1) es p.answers (entries_read es safe has))
-        (λ saves. fields_saved d place dialog there (n + 1) es (with_command place (command_of number) p.answers) (entries_read es safe has)),
+        (λ cancels. fields_passed d place dialog there (n + 1) es p.answers (entries_read es typed has))
+        (λ saves. fields_saved d place dialog there (n + 1) es (with_command place (command_of number) p.answers) (entries_read es typed has)),
   )
 
-  pub end_text_is : (number : ℕ) (es : Entries) → IsSafeRecord dialog es → All (λ e. HasCharacters e.value) es
+  pub end_text_is : (number : ℕ) (es : Entries) → All (IsTypedEntry dialog) es → All (λ e. HasCharacters e.value) es
       → log_text d (end_lines dialog number es) ≡ canonical_text (end_words d dialog.node.id number ∷ map (field_words d) es)
-  end_text_is number es safe has = end_text d dialog number es (entries_logged es safe has)
+  end_text_is number es typed has = end_text d dialog number es (entries_logged es typed has)
 
   -- what is answered then, where nothing was before
   abbrev answer_by : ℕ → Entries → Answer
@@ -274,13 +283,13 @@ module _ (d : Desc) (can : CanBeSpelled d) (sound : IsSound d) (place : ℕ) (di
       entered_at place es (with_command place (command_of number) (no_answers d))
       ∙ ap (λ dialogs. record (no_answers d) { dialogs = dialogs })
       (changed_twice place (with_all es) commands (no_answers d).dialogs
-      ∙ changed_same place (λ answer. with_all es (commands answer)) (λ answer. answer_by number es) d.dialogs (ap (answer_by number) (put_first es (ids_apart es safe))))
+      ∙ changed_same place (λ answer. with_all es (commands answer)) (λ answer. answer_by number es) d.dialogs (ap (answer_by number) (put_first es (ids_apart es safe.fields))))
 
   pub end_is_read : (number : ℕ) (es : Entries) → is_end (dialog_head dialog).ends number ≡ true → IsSafeRecord dialog es → All (λ e. HasCharacters e.value) es
       → answers_in d (log_text d (end_lines dialog number es)) ≡ Some (answers_saved d place number es)
   end_is_read number es declared safe has =
-      ap (λ text. answers_in d text) (end_text_is number es safe has)
-      ∙ ap (option_map (λ p. p.answers)) (text_read d 1 (nothing_read d) (after_end number es (no_answers d)) (end_words d dialog.node.id number ∷ map (field_words d) es) (end_lines_read 1 (nothing_read d) number es declared safe has))
+      ap (λ text. answers_in d text) (end_text_is number es (All-weaker (IsSafeEntry dialog) (IsTypedEntry dialog) (safe_typed dialog) es safe.values) has)
+      ∙ ap (option_map (λ p. p.answers)) (text_read d 1 (nothing_read d) (after_end number es (no_answers d)) (end_words d dialog.node.id number ∷ map (field_words d) es) (end_lines_read 1 (nothing_read d) number es declared (All-weaker (IsSafeEntry dialog) (IsTypedEntry dialog) (safe_typed dialog) es safe.values) has))
       ∙ bool_cases (number == 11)
       (λ b. Some (if b then passed (no_answers d) else record { answers = entered place es (with_command place (command_of number) (no_answers d)); block = Saved place }).answers
       ≡ Some (if b then no_answers d else record (no_answers d) { dialogs = changed_at place (λ answer. answer_by number es) (no_answers d).dialogs }))

@@ -16,4 +16,11 @@ pub mod LogNameLemmas
 pub mod PutLemmas
 pub mod LogReadLemmas
 pub mod EndReadLemmas
+pub mod ToldLemmas
+pub mod ToldDialogLemmas
+pub mod ToldSessionLemmas
+pub mod NamesLemmas
+pub mod DialogsSavedLemmas
+pub mod ToldReadLemmas
+pub mod RunReadLemmas
 pub mod Examples

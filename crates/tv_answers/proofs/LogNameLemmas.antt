@@ -36,11 +36,11 @@ use Rattle.tv_answers.proofs.OpeningLemmas.{apart, view_id}
 abbrev IsEarlier : ℕ → ℕ → Type 0
 IsEarlier line later = line < later
 
-all_right : {A : Type 0} (P : A → Type 0) (xs ys : List A) → All P (xs ++ ys) → All P ys
+pub all_right : {A : Type 0} (P : A → Type 0) (xs ys : List A) → All P (xs ++ ys) → All P ys
 all_right P [] ys all = all
 all_right P (x ∷ xs) ys all = all_right P xs ys (All-tail P x (xs ++ ys) all)
 
-all_left : {A : Type 0} (P : A → Type 0) (xs ys : List A) → All P (xs ++ ys) → All P xs
+pub all_left : {A : Type 0} (P : A → Type 0) (xs ys : List A) → All P (xs ++ ys) → All P xs
 all_left P [] ys all = All-nil P
 all_left P (x ∷ xs) ys all = All-cons P x xs (All-head P x (xs ++ ys) all) (all_left P xs ys (All-tail P x (xs ++ ys) all))
 
@@ -56,11 +56,11 @@ pairs_without R [] ys zs all = pairs_right R ys zs all
 pairs_without R (x ∷ xs) ys zs all =
     AllPairs-cons R x (xs ++ zs) (all_without (R x) xs ys zs (pairs_head R x (xs ++ (ys ++ zs)) all)) (pairs_without R xs ys zs (pairs_tail R x (xs ++ (ys ++ zs)) all))
 
-all_unmap : {A B : Type 0} (P : B → Type 0) (f : A → B) (xs : List A) → All P (map f xs) → All (λ x. P (f x)) xs
+pub all_unmap : {A B : Type 0} (P : B → Type 0) (f : A → B) (xs : List A) → All P (map f xs) → All (λ x. P (f x)) xs
 all_unmap P f [] all = All-nil (λ x. P (f x))
 all_unmap P f (x ∷ xs) all = All-cons (λ y. P (f y)) x xs (All-head P (f x) (map f xs) all) (all_unmap P f xs (All-tail P (f x) (map f xs) all))
 
-pairs_unmap : {A B : Type 0} (R : B → B → Type 0) (f : A → B) (xs : List A) → AllPairs R (map f xs) → AllPairs (λ x y. R (f x) (f y)) xs
+pub pairs_unmap : {A B : Type 0} (R : B → B → Type 0) (f : A → B) (xs : List A) → AllPairs R (map f xs) → AllPairs (λ x y. R (f x) (f y)) xs
 pairs_unmap R f [] all = pairs_nil (λ x y. R (f x) (f y))
 pairs_unmap R f (x ∷ xs) all =
     AllPairs-cons (λ x y. R (f x) (f y)) x xs (all_unmap (R (f x)) f xs (pairs_head R (f x) (map f xs) all)) (pairs_unmap R f xs (pairs_tail R (f x) (map f xs) all))

@@ -1,9 +1,16 @@
 -- What answers and logs come to, as laws.
 use lib.Utf8.{scalars}
-use Rattle.std.specs.Prelude.{◌≡◌, ℕ, true, List, slice_get, Some, None, All, IsTrue, ◌==◌, if◌then◌else◌}
+use Rattle.std.specs.Prelude.{◌≡◌, ℕ, true, not, ◌&&◌, List, [], ◌∷◌, ◌++◌, map, slice_get, Option, Some, None, unwrap_or, All, IsTrue}
+use Rattle.std.specs.Prelude.{◌==◌, if◌then◌else◌}
+use Rattle.std.specs.Option.{option_or}
 use Rattle.tv_event.specs.Commands.{cm_cancel}
+use Rattle.tv_event.specs.declared.event.Command.{Command}
+use Rattle.tv_event.specs.declared.event.Event.{Event}
 use Rattle.tv_model.specs.declared.desc.Desc.{Desc}
 use Rattle.tv_model.specs.declared.desc.Dialog.{Dialog}
+use Rattle.tv_model.specs.declared.log.LogLine.{LogLine}
+use Rattle.tv_model.specs.declared.log.LogLine.TheVariants as lines
+use Rattle.tv_model.specs.declared.node.Id.{Id}
 use Rattle.tv_model.specs.declared.record.Value.{Value}
 use Rattle.tv_model.specs.declared.record.Value.TheVariants as values
 use Rattle.tv_model.specs.Description.Commands.{is_end}
@@ -11,8 +18,15 @@ use Rattle.tv_model.specs.Description.Heads.{dialog_head}
 use Rattle.tv_model.specs.Log.LogText.{log_text}
 use Rattle.tv_model.specs.Log.Record.{Entries}
 use Rattle.tv_machine.specs.Dialog.Opening.{opened_leaves}
+use Rattle.tv_machine.specs.declared.script.Item.TheVariants as items
+use Rattle.tv_machine.specs.Output.{output}
+use Rattle.tv_machine.specs.Run.{started}
 use Rattle.tv_machine.specs.Safe.{IsSafeRecord}
+use Rattle.tv_machine.specs.Session.Start.{start}
+use Rattle.tv_machine.specs.Session.Step.{step}
+use Rattle.tv_machine.specs.State.{State}
 use Rattle.tv_laws.specs.Records.{end_lines}
+use Rattle.tv_laws.specs.Runs.{state_after}
 use Rattle.tv_answers.specs.declared.answers.Answer.{Answer}
 use Rattle.tv_answers.specs.declared.answers.Answers.{Answers}
 use Rattle.tv_answers.specs.Filling.{filled}
@@ -42,12 +56,16 @@ abbrev pub HasCharacters : Value → Type 0
 HasCharacters (values.Text text) = IsTrue (scalars text)
 HasCharacters _ = Unit {0}
 
+-- what a dialog saves that ends by a command
+abbrev pub answer_saved : ℕ → Entries → Answer
+answer_saved number entries = record { command = Some (record { 0 = number }); entries = entries }
+
 -- what the end of the dialog at a place by a command saves: nothing where that cancels
 abbrev pub answers_saved : Desc → ℕ → ℕ → Entries → Answers
 answers_saved d place number entries =
     if number == cm_cancel then no_answers d
     else record (no_answers d) {
-      dialogs = changed_at place (λ answer. record { command = Some (record { 0 = number }); entries = entries }) (no_answers d).dialogs;
+      dialogs = changed_at place (λ answer. answer_saved number entries) (no_answers d).dialogs;
     }
 
 -- what a dialog logs of its end by a command that it declares, with a record that it may save, answers what is
@@ -58,3 +76,44 @@ EndsAreRead d =
     → is_end (dialog_head dialog).ends number ≡ true → IsSafeRecord dialog entries
     → All (λ entry. HasCharacters entry.value) entries
     → answers_in d (log_text d (end_lines dialog number entries)) ≡ Some (answers_saved d place number entries)
+
+-- ---- runs
+
+-- the lines that a run logs from a state on
+abbrev pub lines_after : Desc → State → List Event → List LogLine
+lines_after d s [] = []
+lines_after d s (e ∷ es) = (step d s e).log ++ lines_after d (step d s e) es
+
+-- all lines that a run logs
+abbrev pub logged : Desc → List Event → List LogLine
+logged d events = (start d).log ++ lines_after d (start d) events
+
+-- the texts of fields are of characters
+abbrev pub AreCharacters : LogLine → Type 0
+AreCharacters (lines.Field i value) = HasCharacters value
+AreCharacters _ = Unit {0}
+
+-- the command by which a line ends the dialog, unless that cancels
+abbrev pub saving_end : Id → LogLine → Option Command
+saving_end i (lines.End other command) =
+    if (other.0 == i.0) && not (command.0 == cm_cancel) then Some command else None
+saving_end i _ = None
+
+-- that of the last line that has one
+abbrev pub last_end : Id → List LogLine → Option Command
+last_end i [] = None
+last_end i (line ∷ rest) = option_or (last_end i rest) (saving_end i line)
+
+-- of each dialog the command of its last end, and its saved record
+abbrev pub dialogs_saved : List LogLine → List Dialog → List (Option Entries) → List Answer
+dialogs_saved log (dialog ∷ dialogs) (saved ∷ rest) =
+    record { command = last_end dialog.node.id log; entries = unwrap_or saved [] } ∷ dialogs_saved log dialogs rest
+dialogs_saved log _ _ = []
+
+-- what a run writes for events answers, without a misfit, what it saved in the end, each dialog with the command
+-- of its last end but `cancel`
+abbrev pub LogIsRead : Desc → Type 0
+LogIsRead d =
+    (events : List Event) → All AreCharacters (logged d events)
+    → answers_in d (output (started d) (map items.Event events))
+    ≡ Some (record { dialogs = dialogs_saved (logged d events) d.dialogs (state_after d events).saved; misfits = [] })

@@ -1,6 +1,6 @@
 //! What answers and logs come to, as contracts.
 
-ghost use Rattle.tv_answers.specs.Laws.{EndsAreRead, OpenAsAnswered};
+ghost use Rattle.tv_answers.specs.Laws.{EndsAreRead, LogIsRead, OpenAsAnswered};
 ghost use Rattle.tv_lang.specs.CanonicalDescription.{CanBeSpelled};
 ghost use Rattle.tv_model.specs.Faults.{IsSound};
 
@@ -19,4 +19,12 @@ pub fn ends_are_read(_desc: &Desc)
     requires spelled { CanBeSpelled _desc.now }
     requires sound { IsSound _desc.now }
     ensures { EndsAreRead _desc.now }
+{}
+
+/// A theorem, as a function without a body: what a run of a sound description that a text can spell logs of events
+/// answers, without a misfit, what the run saved, and of each dialog the command of its last end but `cancel`.
+pub fn log_is_read(_desc: &Desc)
+    requires spelled { CanBeSpelled _desc.now }
+    requires sound { IsSound _desc.now }
+    ensures { LogIsRead _desc.now }
 {}
