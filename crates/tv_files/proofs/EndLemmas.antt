@@ -56,6 +56,7 @@ module _ (P Q : Desc → Type 0) (weaker : (text : List ℕ) (d : Desc) → IsSo
   IsNoStart-weaker text d (runs.Script fault) sound why = absurd why
   IsNoStart-weaker text d runs.Read sound why = absurd why
   IsNoStart-weaker text d runs.Write sound why = absurd why
+  IsNoStart-weaker text d runs.Tape sound why = absurd why
 
   -- what a run comes to
   RunsTo-weaker : {T : Type 0} (Stands : T → Session → Type 0) (text : List ℕ) (reader left : Given) (old new : Seen) (r : Result T RunFault) → RunsTo P Stands text reader left old new r → RunsTo Q Stands text reader left old new r
@@ -123,6 +124,7 @@ module _ (P Q : Desc → Type 0) (weaker : (text : List ℕ) (d : Desc) → IsSo
   IsUnrun-weaker d written (runs.Script fault) was = (was.0, was.1, (was.2.0, was.2.1, RefusesRun-weaker _ (runs.Script fault) was.2.2))
   IsUnrun-weaker d written runs.Read was = (was.0, was.1, (was.2.0, was.2.1, RefusesRun-weaker _ runs.Read was.2.2))
   IsUnrun-weaker d written runs.Write was = (was.0, was.1, (was.2.0, was.2.1, RefusesRun-weaker _ runs.Write was.2.2))
+  IsUnrun-weaker d written runs.Tape was = (was.0, was.1, (was.2.0, was.2.1, RefusesRun-weaker _ runs.Tape was.2.2))
 
   -- what giving dialogs their ends comes to
   AnswersTo-weaker : (name : List ℕ) (d : Desc) (written : List ℕ) (old new : Written) (r : Result (Unit {0}) AnswerFault) → AnswersTo P name d written old new r → AnswersTo Q name d written old new r

@@ -1,14 +1,17 @@
 -- What tasks come to, by what each step of them came to.
-use Rattle.std.proofs.Common.{◌≡◌, ℕ, List, [], ◌∷◌, Result, Ok, Err, IsErrAnd, ap, refl}
+use Rattle.std.proofs.Common.{◌≡◌, ℕ, List, [], ◌∷◌, Result, Ok, Err, IsErrAnd, ap, refl, subst}
 use Rattle.tv_io.specs.Reader.{Given}
 use Rattle.tv_io.specs.Reading.{IsRead}
 use Rattle.tv_io.specs.Writer.{Seen}
 use Rattle.tv_machine.specs.Run.{Session, started}
 use Rattle.tv_model.specs.declared.desc.Desc.{Desc}
+use Rattle.tv_play.specs.Pieces.{Heard}
 use Rattle.tv_play.specs.Playing.{Ports}
+use Rattle.tv_play.specs.declared.parting.Parting.{Parting}
 use Rattle.tv_program.specs.declared.trouble.Trouble.{Trouble}
 use Rattle.tv_program.specs.declared.run_fault.RunFault.{RunFault}
 use Rattle.tv_program.specs.Playing.{RunsTo}
+use Rattle.tv_program.specs.Terminal.{PlaysText}
 use Rattle.tv_program.specs.Playing.RunsTo.{refused, unbegun, stopped, done as done_run}
 use Rattle.tv_script.proofs.FeedLemmas.{comes_weaker}
 use Rattle.tv_files.specs.declared.done.Done.{Done}
@@ -63,3 +66,11 @@ RunsTo-gone Mismade Stands text reader left old new r (done_run d run read comes
 pub unread-PlaysFile : (Mismade : Desc → Type 0) (files after : Known) (file : List ℕ) (ports : Ports) (failure : Failure) → IsUnread longest files after (file ∷ []) file (end_of_failure failure) → (r : Result Done Failure) → IsErrAnd r (λ told. told ≡ failure) → PlaysFile Mismade files after file ports ports (done_in r) (end_of r)
 unread-PlaysFile Mismade files after file ports failure is (Ok how) told = absurd told
 unread-PlaysFile Mismade files after file ports failure is (Err other) told = rw told (unread_file is refl refl)
+
+-- what was played, as it stands once the streams are back
+pub PlaysText-lent : (Mismade : Desc → Type 0) (text : List ℕ) (old : Ports) (input : Heard) (log log' screen screen' tape tape' : Seen) (r : Result Parting RunFault) → log ≡ log' → screen ≡ screen' → tape ≡ tape' → PlaysText Mismade text old (record { input = input; log = log; screen = screen; tape = tape }) r
+    → PlaysText Mismade text old (record { input = input; log = log'; screen = screen'; tape = tape' }) r
+PlaysText-lent Mismade text old input log log' screen screen' tape tape' r same alike kept p =
+    subst (λ (x : Seen). PlaysText Mismade text old (record { input = input; log = log'; screen = screen'; tape = x }) r) kept
+    (subst (λ (x : Seen). PlaysText Mismade text old (record { input = input; log = log'; screen = x; tape = tape }) r) alike
+    (subst (λ (x : Seen). PlaysText Mismade text old (record { input = input; log = x; screen = screen; tape = tape }) r) same p))

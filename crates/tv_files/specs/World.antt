@@ -4,7 +4,7 @@ use Rattle.tv_io.specs.Writer.{Seen}
 use Rattle.tv_program.specs.Albums.{Hung}
 use Rattle.tv_program.specs.Filling.{Written}
 use Rattle.tv_play.specs.Pieces.{Heard}
-use Rattle.tv_play.specs.Playing.{Ports}
+use Rattle.tv_play.specs.Playing.{Ports, untaped}
 use Rattle.tv_files.specs.Files.{Known}
 use Rattle.tv_files.specs.declared.world.World.{World}
 
@@ -27,9 +27,9 @@ known_world known hung heard out_seen err_seen world = record {
   err = err_seen world.err;
 }
 
--- what a task hears and writes
+-- what a task hears and writes, without a tape
 abbrev pub ports_of : KnownWorld → Ports
-ports_of world = record { input = world.heard; log = world.out; screen = world.err }
+ports_of world = record { input = world.heard; log = world.out; screen = world.err; tape = untaped }
 
 -- what both streams have been written
 abbrev pub written_of : KnownWorld → Written

@@ -24,7 +24,7 @@ use tv_check::Checked;
 use tv_io::{Reader, Writer, read_text, write_all};
 use tv_lang::parse;
 use tv_model::Desc;
-use tv_play::Pieces;
+use tv_play::{NoTape, Outputs, Pieces};
 use tv_program::{Album, Trouble, accept_text, check, play, run};
 use tv_session::{BuildFault, Views};
 use tv_view::View;
@@ -219,13 +219,19 @@ pub fn play_file<
         (known world.new) (done_in result) (end_of result) }
 {
     let text = read_file(&mut world.files, alloc, file)?;
+    let mut tape = NoTape;
+    let mut outputs = Outputs {
+        screen: &mut world.err,
+        colours: Colours::Sixteen,
+        log: &mut world.out,
+        tape: &mut tape,
+    };
     match play(
         alloc,
         text.as_slice(),
         &mut world.pieces,
         views,
-        &mut world.err,
-        &mut world.out,
+        &mut outputs,
     ) {
         Ok(parting) => Ok(Done::from(parting)),
         Err(fault) => Err(Failure::of_run(file, TERMINAL, fault)),

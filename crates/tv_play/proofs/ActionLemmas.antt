@@ -7,6 +7,7 @@ use Rattle.std.proofs.lemmas.List.{append-nil, drop-append-le, drop_all, length-
 use Rattle.tv_event.specs.declared.event.Event.{Event as Happening}
 use Rattle.tv_machine.specs.Run.{Session, stepped}
 use Rattle.tv_model.specs.declared.desc.Desc.{Desc}
+use Rattle.tv_play.specs.Edge.{brought}
 use Rattle.tv_play.specs.Ends.{event_in, events_in, is_refreshing, is_refused, reached, refusals, session_at}
 use Rattle.tv_play.specs.Shown.{is_whole}
 use Rattle.tv_play.proofs.SessionLemmas.{desc-at, session-push}
@@ -16,26 +17,26 @@ use Rattle.tv_terminal.specs.declared.action.Action.TheVariants.{Event}
 -- ---- events
 
 events-more : (d : Desc) (actions : List Action) (a : Action)
-    → events_in d (actions ++ a ∷ []) ≡ events_in d actions ++ ((if is_refreshing d a then [] else event_in a) ++ [])
-events-more d actions a = flat_map-append (λ action. if is_refreshing d action then [] else event_in action) actions (a ∷ [])
+    → events_in d (actions ++ a ∷ []) ≡ events_in d actions ++ ((if is_refreshing d a then [] else event_in d a) ++ [])
+events-more d actions a = flat_map-append (λ action. if is_refreshing d action then [] else event_in d action) actions (a ∷ [])
 
 pub events-perform : (d : Desc) (actions : List Action) (e : Happening) → is_refreshing d (Event e) ≡ false
-    → events_in d (actions ++ Event e ∷ []) ≡ events_in d actions ++ e ∷ []
+    → events_in d (actions ++ Event e ∷ []) ≡ events_in d actions ++ brought d e ∷ []
 events-perform d actions e calm =
-    events-more d actions (Event e) ∙ ap (λ test. events_in d actions ++ ((if test then [] else e ∷ []) ++ [])) calm
+    events-more d actions (Event e) ∙ ap (λ test. events_in d actions ++ ((if test then [] else brought d e ∷ []) ++ [])) calm
 
 pub events-refresh : (d : Desc) (actions : List Action) (a : Action) → is_refreshing d a ≡ true
     → events_in d (actions ++ a ∷ []) ≡ events_in d actions
 events-refresh d actions a asked =
-    events-more d actions a ∙ ap (λ test. events_in d actions ++ ((if test then [] else event_in a) ++ [])) asked
+    events-more d actions a ∙ ap (λ test. events_in d actions ++ ((if test then [] else event_in d a) ++ [])) asked
     ∙ append-nil (events_in d actions)
 
 -- ---- sessions
 
 pub reached-perform : (s : Session) (actions : List Action) (e : Happening) → is_refreshing s.desc (Event e) ≡ false
-    → reached s (actions ++ Event e ∷ []) ≡ stepped (reached s actions) e
+    → reached s (actions ++ Event e ∷ []) ≡ stepped (reached s actions) (brought s.desc e)
 reached-perform s actions e calm =
-    ap (session_at s) (events-perform s.desc actions e calm) ∙ session-push s (events_in s.desc actions) e
+    ap (session_at s) (events-perform s.desc actions e calm) ∙ session-push s (events_in s.desc actions) (brought s.desc e)
 
 pub reached-refresh : (s : Session) (actions : List Action) (a : Action) → is_refreshing s.desc a ≡ true
     → reached s (actions ++ a ∷ []) ≡ reached s actions
@@ -53,9 +54,9 @@ refusals-push s (first ∷ events) e = omega (arith, refusals-push (stepped s fi
 
 pub refusals-perform : (s : Session) (actions : List Action) (e : Happening) → is_refreshing s.desc (Event e) ≡ false
     → refusals s (events_in s.desc (actions ++ Event e ∷ []))
-    ≡ refusals s (events_in s.desc actions) + (if is_refused (stepped (reached s actions) e) then 1 else 0)
+    ≡ refusals s (events_in s.desc actions) + (if is_refused (stepped (reached s actions) (brought s.desc e)) then 1 else 0)
 refusals-perform s actions e calm =
-    ap (refusals s) (events-perform s.desc actions e calm) ∙ refusals-push s (events_in s.desc actions) e
+    ap (refusals s) (events-perform s.desc actions e calm) ∙ refusals-push s (events_in s.desc actions) (brought s.desc e)
 
 pub refusals-refresh : (s : Session) (actions : List Action) (a : Action) → is_refreshing s.desc a ≡ true
     → refusals s (events_in s.desc (actions ++ a ∷ [])) ≡ refusals s (events_in s.desc actions)

@@ -61,12 +61,13 @@ leaves-wider s (action ∷ rest) more l = l
 
 ended-wider : (s : Session) (actions rest more : List Action) (from now : Outside) (outcome : Result Parting PlayFault) → IsEndedBy s actions rest from now outcome → IsEndedBy s actions (rest ++ more) from now outcome
 ended-wider s actions rest more from now (Ok partings.Over) is = is
-ended-wider s actions rest more from now (Ok partings.Left) is = (is.0, leaves-wider s rest more is.1, is.2, is.3)
+ended-wider s actions rest more from now (Ok partings.Left) is = (is.0, leaves-wider s rest more is.1, is.2, is.3, is.4)
 ended-wider s actions rest more from now (Ok partings.Ended) is = is
 ended-wider s actions rest more from now (Err faults.NoMemory) is = is
 ended-wider s actions rest more from now (Err faults.Read) is = is
 ended-wider s actions rest more from now (Err faults.Log) is = is
 ended-wider s actions rest more from now (Err faults.Screen) is = is
+ended-wider s actions rest more from now (Err faults.Tape) is = is
 
 pub played-wider : (s : Session) (symbols more : List Symbol) (from now : Outside) (Left : Session → Type 0) (outcome : Result Parting PlayFault) → HasPlayedOut s symbols from now Left outcome → HasPlayedOut s (symbols ++ more) from now Left outcome
 played-wider s symbols more from now Left outcome p = record {
@@ -75,6 +76,7 @@ played-wider s symbols more from now Left outcome p = record {
   heard = heard-wider s symbols more p.actions p.rest p.heard;
   shown = p.shown;
   left = p.left;
+  taped = p.taped;
   ended = ended-wider s p.actions p.rest (decode_after (left symbols) more) from now outcome p.ended;
 }
 
@@ -85,7 +87,9 @@ playing-still s symbols next from now Left means p = record {
   goes = p.goes;
   shown = p.shown;
   performs = p.performs;
+  taped = p.taped;
   going = p.going;
+  whole = p.whole;
 }
 
 -- ---- what may be meant

@@ -1,4 +1,5 @@
 pub mod SessionLemmas
+pub mod EdgeLemmas
 pub mod ActionLemmas
 pub mod CursorLemmas
 pub mod ShownLemmas
@@ -7,3 +8,4 @@ pub mod StepLemmas
 pub mod PlayerLemmas
 pub mod PlayLemmas
 pub mod LiveLemmas
+pub mod TapedLemmas

@@ -9,15 +9,16 @@ use Rattle.tv_terminal.specs.declared.painter.Painter.{Painter}
 use Rattle.std.specs.Prelude.{MatchResult}
 use Rattle.tv_io.specs.Pen.{PutsBy}
 use Rattle.tv_io.specs.declared.writer.WriteFailed.{WriteFailed}
-use Rattle.tv_io.proofs.WriterLemmas.{Cuts-after, Cuts-held, Takes-passed, Takes-then}
+use Rattle.tv_io.proofs.WriterLemmas.{Cuts-after, Cuts-held, Takes-none, Takes-passed, Takes-then}
 use Rattle.tv_io.specs.Writer.{Cuts, IsHeldBack, IsPassedOn, PassesOn, Seen, Takes}
 use Rattle.tv_machine.specs.Output.{output}
 use Rattle.tv_machine.specs.Run.{Session, quiet}
 use Rattle.tv_model.specs.Log.LogText.{log_text}
-use Rattle.tv_play.specs.Ends.{is_finished, is_leaving, script_of}
+use Rattle.tv_script.specs.Tapes.{script_text}
+use Rattle.tv_play.specs.Ends.{events_in, is_finished, is_leaving, script_of}
 use Rattle.tv_play.specs.Pieces.{Comes, ComesNot, HasCome, Heard, FitsRoom, Loses, symbols_in}
-use Rattle.tv_play.specs.Playing.{ComesOf, IsWrittenOrCut, PartsBy, Plays, PlaysTo, Ports, told_with}
-use Rattle.tv_play.specs.Steps.{CameTo, HasPlayedOut, HasRun, IsAtEnd, IsEndedBy, IsHeard, IsPlaying, HasBeenShown, Outside, TurnsTo, or_end, outcome_of, outside}
+use Rattle.tv_play.specs.Playing.{ComesOf, IsTakenOrCut, IsWrittenOrCut, PartsBy, Plays, PlaysTo, Ports, told_with}
+use Rattle.tv_play.specs.Steps.{CameTo, HasPlayedOut, HasRun, IsAtEnd, IsEndedBy, IsHeard, IsPlaying, IsTaped, HasBeenShown, Outside, TurnsTo, or_end, outcome_of, outside}
 use Rattle.tv_play.specs.declared.parting.Parting.{Parting}
 use Rattle.tv_play.specs.declared.parting.Parting.TheVariants as partings
 use Rattle.tv_play.specs.declared.parting.PlayFault.{PlayFault}
@@ -57,20 +58,28 @@ log-first {a} {b} s p = subst (Takes a b) (sym (append-nil (log_text s.desc s.st
 pub log-first-cut : {a b : Seen} (s : Session) → Cuts a b (log_text s.desc s.state.log) → Cuts a b (output s (script_of s.desc []))
 log-first-cut {a} {b} s p = subst (Cuts a b) (sym (append-nil (log_text s.desc s.state.log))) p
 
+-- nothing was taped yet
+pub taped-none : (a : Seen) (torn : Bool) → torn ≡ false → PutsBy a false a torn []
+taped-none a true e = absurd cc
+taped-none a false e = Takes-none a
+
 -- a run that was begun: it ended before anything was read, or it goes on
-pub first-turns : (s : Session) (from now : Outside) (Left : Session → Type 0) (answer : Bool) → answer ≡ is_finished s → (written : Result (Unit {0}) WriteFailed) (stop : Bool) → now.stopped ≡ stop
+pub first-turns : (s : Session) (from now : Outside) (Left : Session → Type 0) (answer : Bool) → answer ≡ is_finished s → (written : Result (Unit {0}) WriteFailed) (stop torn : Bool) → now.stopped ≡ stop → now.torn ≡ torn
     → MatchResult written (λ _. Takes from.log now.log (log_text s.desc s.state.log)) (λ _. Cuts from.log now.log (log_text s.desc s.state.log))
-    → HasBeenShown from.painter.colours s [] from.screen now.screen now.stopped now.painter → Left (quiet s) → TurnsTo s [] from now Left (outcome_of answer written stop)
-first-turns s from now Left answer is (Err failed) stop same cut shown left = record { actions = []; rest = []; heard = heard-none s; shown = shown; left = left; ended = log-first-cut s cut }
-first-turns s from now Left answer is (Ok written) true same takes shown left = record { actions = []; rest = []; heard = heard-none s; shown = shown; left = left; ended = (log-first s takes, same) }
-first-turns s from now Left true is (Ok written) false same takes shown left = record { actions = []; rest = []; heard = heard-none s; shown = shown; left = left; ended = (sym is, log-first s takes, same) }
-first-turns s from now Left false is (Ok written) false same takes shown left = record {
+    → HasBeenShown from.painter.colours s [] from.screen now.screen now.stopped now.painter → Left (quiet s) → IsTaped s [] from now → TurnsTo s [] from now Left (outcome_of answer written stop torn)
+first-turns s from now Left answer is (Err failed) stop torn same alike cut shown left taped = record { actions = []; rest = []; heard = heard-none s; shown = shown; left = left; taped = taped; ended = log-first-cut s cut }
+first-turns s from now Left answer is (Ok written) true torn same alike takes shown left taped = record { actions = []; rest = []; heard = heard-none s; shown = shown; left = left; taped = taped; ended = (log-first s takes, same) }
+first-turns s from now Left answer is (Ok written) false true same alike takes shown left taped = record { actions = []; rest = []; heard = heard-none s; shown = shown; left = left; taped = taped; ended = (log-first s takes, same, alike) }
+first-turns s from now Left true is (Ok written) false false same alike takes shown left taped = record { actions = []; rest = []; heard = heard-none s; shown = shown; left = left; taped = taped; ended = (sym is, log-first s takes, same, alike) }
+first-turns s from now Left false is (Ok written) false false same alike takes shown left taped = record {
   actions = [];
   heard = heard-none s;
   goes = sym is;
   shown = shown;
   performs = record { written = log-first s takes; left = left };
+  taped = taped;
   going = same;
+  whole = alike;
 }
 
 -- ---- the loop
@@ -86,37 +95,50 @@ held-back : {a b c : Seen} (text : List ℕ) → Takes a b text → IsHeldBack b
 held-back {a} {b} {c} text p held = subst (Cuts a c) (append-nil text) (Cuts-after text [] p (Cuts-held held))
 
 -- what was written was passed on, or the run is over
-pub turned-passed : (s : Session) (symbols : List Symbol) (from : Outside) (log log' screen screen' : Seen) (stop stop' : Bool) (painter : Painter) (Left : Session → Type 0) (passed : Result (Unit {0}) WriteFailed) → PassesOn log log' passed → PutsBy screen stop screen' stop' []
-    → IsPlaying s symbols from (outside log screen stop painter) Left → TurnsTo s symbols from (outside log' screen' stop' painter) Left (outcome_of false passed stop')
-turned-passed s symbols from log log' screen screen' stop stop' painter Left (Err failed) held put p = record {
+pub turned-passed : (s : Session) (symbols : List Symbol) (from : Outside) (log log' screen screen' tape tape' : Seen) (stop stop' torn torn' : Bool) (painter : Painter) (Left : Session → Type 0) (passed : Result (Unit {0}) WriteFailed) → PassesOn log log' passed → PutsBy screen stop screen' stop' [] → PutsBy tape torn tape' torn' []
+    → IsPlaying s symbols from (outside log screen tape stop torn painter) Left → TurnsTo s symbols from (outside log' screen' tape' stop' torn' painter) Left (outcome_of false passed stop' torn')
+turned-passed s symbols from log log' screen screen' tape tape' stop stop' torn torn' painter Left (Err failed) held put puts p = record {
   actions = p.actions;
   rest = [];
   heard = p.heard;
   shown = shown-still s p.actions from.screen screen screen' stop stop' painter p.shown put;
   left = p.performs.left;
+  taped = put-still from.tape tape tape' torn torn' (script_text (events_in s.desc p.actions)) p.taped puts;
   ended = held-back (output s (script_of s.desc p.actions)) p.performs.written held;
 }
-turned-passed s symbols from log log' screen screen' stop true painter Left (Ok done) passed put p = record {
+turned-passed s symbols from log log' screen screen' tape tape' stop true torn torn' painter Left (Ok done) passed put puts p = record {
   actions = p.actions;
   rest = [];
   heard = p.heard;
   shown = shown-still s p.actions from.screen screen screen' stop true painter p.shown put;
   left = p.performs.left;
+  taped = put-still from.tape tape tape' torn torn' (script_text (events_in s.desc p.actions)) p.taped puts;
   ended = (passed-on (output s (script_of s.desc p.actions)) p.performs.written passed, refl);
 }
-turned-passed s symbols from log log' screen screen' stop false painter Left (Ok done) passed put p = record {
+turned-passed s symbols from log log' screen screen' tape tape' stop false torn true painter Left (Ok done) passed put puts p = record {
+  actions = p.actions;
+  rest = [];
+  heard = p.heard;
+  shown = shown-still s p.actions from.screen screen screen' stop false painter p.shown put;
+  left = p.performs.left;
+  taped = put-still from.tape tape tape' torn true (script_text (events_in s.desc p.actions)) p.taped puts;
+  ended = (passed-on (output s (script_of s.desc p.actions)) p.performs.written passed, refl, refl);
+}
+turned-passed s symbols from log log' screen screen' tape tape' stop false torn false painter Left (Ok done) passed put puts p = record {
   actions = p.actions;
   heard = p.heard;
   goes = p.goes;
   shown = shown-still s p.actions from.screen screen screen' stop false painter p.shown put;
   performs = record { written = passed-on (output s (script_of s.desc p.actions)) p.performs.written passed; left = p.performs.left };
+  taped = put-still from.tape tape tape' torn false (script_text (events_in s.desc p.actions)) p.taped puts;
   going = refl;
+  whole = refl;
 }
 
--- it goes on only where both were passed on
-pub passes-on : (a b : Seen) (passed : Result (Unit {0}) WriteFailed) (stop : Bool) → None ≡ outcome_of false passed stop → PassesOn a b passed → b.kept ≡ []
-passes-on a b (Err failed) stop is held = absurd cc
-passes-on a b (Ok done) stop is passed = passed.none
+-- it goes on only where all were passed on
+pub passes-on : (a b : Seen) (passed : Result (Unit {0}) WriteFailed) (stop torn : Bool) → None ≡ outcome_of false passed stop torn → PassesOn a b passed → b.kept ≡ []
+passes-on a b (Err failed) stop torn is held = absurd cc
+passes-on a b (Ok done) stop torn is passed = passed.none
 
 -- what turned to nothing goes on
 pub played-on : (s : Session) (symbols : List Symbol) (from now : Outside) (Left : Session → Type 0) (outcome : Option (Result Parting PlayFault)) → None ≡ outcome → TurnsTo s symbols from now Left outcome → IsPlaying s symbols from now Left
@@ -142,6 +164,7 @@ came-by s symbols actions rest input left from now (Err faults.NoMemory) come en
 came-by s symbols actions rest input left from now (Err faults.Read) come ended = absurd ended
 came-by s symbols actions rest input left from now (Err faults.Log) come ended = (come, ended)
 came-by s symbols actions rest input left from now (Err faults.Screen) come ended = (come, ended)
+came-by s symbols actions rest input left from now (Err faults.Tape) come ended = (come, ended)
 
 pub run-by : (s : Session) (symbols : List Symbol) (input left : Heard) (from now : Outside) (Left : Session → Type 0) (outcome : Result Parting PlayFault) → HasCome input left symbols → HasPlayedOut s symbols from now Left outcome → HasRun s input left from now Left outcome
 run-by s symbols input left from now Left outcome come p = record {
@@ -151,6 +174,7 @@ run-by s symbols input left from now Left outcome come p = record {
   heard = p.heard;
   shown = p.shown;
   left = p.left;
+  taped = p.taped;
   came = came-by s symbols p.actions p.rest input left from now outcome come p.ended;
 }
 
@@ -163,7 +187,8 @@ run-ended s symbols input left from now Left come at_end p = record {
   heard = p.heard;
   shown = p.shown;
   left = p.performs.left;
-  came = (come, p.goes, refl, at_end, p.performs.written, p.going);
+  taped = p.taped;
+  came = (come, p.goes, refl, at_end, p.performs.written, p.going, p.whole);
 }
 
 -- it goes on after a piece, or ended with it
@@ -194,15 +219,16 @@ plays-on s symbols from now Left (Some outcome) piece is turned = absurd cc
 plays-on s symbols from now Left None piece is turned = turned
 
 -- its input failed, before which all was passed on
-pub run-unheard : (s : Session) (symbols : List Symbol) (input mid left : Heard) (from now : Outside) (Left : Session → Type 0) → HasCome input mid symbols → ComesNot mid left → now.log.kept ≡ [] → IsPlaying s symbols from now Left → HasRun s input left from now Left (Err faults.Read)
-run-unheard s symbols input mid left from now Left come failed none p = record {
+pub run-unheard : (s : Session) (symbols : List Symbol) (input mid left : Heard) (from now : Outside) (Left : Session → Type 0) → HasCome input mid symbols → ComesNot mid left → now.log.kept ≡ [] → now.tape.kept ≡ [] → IsPlaying s symbols from now Left → HasRun s input left from now Left (Err faults.Read)
+run-unheard s symbols input mid left from now Left come failed none clear p = record {
   symbols = symbols;
   actions = p.actions;
   rest = [];
   heard = p.heard;
   shown = p.shown;
   left = p.performs.left;
-  came = ((mid, come, failed), refl, p.performs.written, p.going, none);
+  taped = p.taped;
+  came = ((mid, come, failed), refl, p.performs.written, p.going, p.whole, none, clear);
 }
 
 -- ---- the end
@@ -211,47 +237,66 @@ written-by : (from last : Seen) (bytes : List ℕ) (stop : Bool) → PutsBy from
 written-by from last bytes true put none = inr put
 written-by from last bytes false put none = inl (record { takes = put; none = none refl })
 
+taken-by : (from last : Seen) (text : List ℕ) (torn : Bool) → PutsBy from false last torn text → IsTakenOrCut from last text
+taken-by from last text true put = inr put
+taken-by from last text false put = inl put
+
+taken-whole : (from last : Seen) (text : List ℕ) (torn : Bool) → torn ≡ false → PutsBy from false last torn text → Takes from last text
+taken-whole from last text true e put = absurd cc
+taken-whole from last text false e put = put
+
+taken-cut : (from last : Seen) (text : List ℕ) (torn : Bool) → torn ≡ true → PutsBy from false last torn text → Cuts from last text
+taken-cut from last text true e put = put
+taken-cut from last text false e put = absurd cc
+
 module _ (s : Session) (symbols : List Symbol) (actions rest : List Action) (input left : Heard) (from now : Outside) (last : Seen) (bytes : List ℕ) (stop : Bool) (put : PutsBy from.screen false last stop bytes) (none : stop ≡ false → last.kept ≡ []) where
   abbrev old : Ports
-  old = record { input = input; log = from.log; screen = from.screen }
+  old = record { input = input; log = from.log; screen = from.screen; tape = from.tape }
 
-  abbrev new : Seen → Ports
-  new log = record { input = left; log = log; screen = last }
+  abbrev new : (log tape : Seen) → Ports
+  new log tape = record { input = left; log = log; screen = last; tape = tape }
+
+  abbrev taped-text : List ℕ
+  taped-text = script_text (events_in s.desc actions)
 
   -- it ended by itself
-  parted : (log : Seen) (parting : Parting) (passed : Result (Unit {0}) WriteFailed) (b : Bool) → stop ≡ b → HasCome input left symbols → Takes from.log now.log (output s (script_of s.desc actions)) → PartsBy s actions left symbols rest parting → PassesOn now.log log passed → ComesOf s symbols actions rest bytes old (new log) (told_with parting passed b)
-  parted log parting (Err failed) b e come takes parts held = (come, held-back (output s (script_of s.desc actions)) takes held, written-by from.screen last bytes stop put none)
-  parted log parting (Ok done) true e come takes parts passed = (come, passed-on (output s (script_of s.desc actions)) takes passed, subst (λ x. PutsBy from.screen false last x bytes) e put)
-  parted log parting (Ok done) false e come takes parts passed = record {
-    came = come;
-    log = record { takes = passed-on (output s (script_of s.desc actions)) takes passed; none = passed.none };
-    screen = record { takes = subst (λ x. PutsBy from.screen false last x bytes) e put; none = none e };
-    parts = parts;
-  }
+  module _ (tape : Seen) (torn : Bool) (taped : PutsBy from.tape false tape torn taped-text) (clear : torn ≡ false → tape.kept ≡ []) where
+    parted : (log : Seen) (parting : Parting) (passed : Result (Unit {0}) WriteFailed) (b t : Bool) → stop ≡ b → torn ≡ t → HasCome input left symbols → Takes from.log now.log (output s (script_of s.desc actions)) → PartsBy s actions left symbols rest parting → PassesOn now.log log passed → ComesOf s symbols actions rest bytes old (new log tape) (told_with parting passed b t)
+    parted log parting (Err failed) b t e f come takes parts held = (come, held-back (output s (script_of s.desc actions)) takes held, written-by from.screen last bytes stop put none, taken-by from.tape tape taped-text torn taped)
+    parted log parting (Ok done) true t e f come takes parts passed = (come, passed-on (output s (script_of s.desc actions)) takes passed, subst (λ x. PutsBy from.screen false last x bytes) e put, taken-by from.tape tape taped-text torn taped)
+    parted log parting (Ok done) false true e f come takes parts passed = (come, passed-on (output s (script_of s.desc actions)) takes passed, written-by from.screen last bytes stop put none, taken-cut from.tape tape taped-text torn f taped)
+    parted log parting (Ok done) false false e f come takes parts passed = record {
+      came = come;
+      log = record { takes = passed-on (output s (script_of s.desc actions)) takes passed; none = passed.none };
+      screen = record { takes = subst (λ x. PutsBy from.screen false last x bytes) e put; none = none e };
+      tape = record { takes = taken-whole from.tape tape taped-text torn f taped; none = clear f };
+      parts = parts;
+    }
 
-  comes-parted : (log : Seen) (parting : Parting) (passed : Result (Unit {0}) WriteFailed) → CameTo s symbols actions rest input left from now (Ok parting) → PassesOn now.log log passed → ComesOf s symbols actions rest bytes old (new log) (told_with parting passed stop)
-  comes-parted log partings.Over passed came passes = parted log partings.Over passed stop refl came.0 came.1.1 came.1.0 passes
-  comes-parted log partings.Left passed came passes = parted log partings.Left passed stop refl came.0 came.1.2 (came.1.0, came.1.1) passes
-  comes-parted log partings.Ended passed came passes = parted log partings.Ended passed stop refl came.0 came.4 (came.1, came.2, came.3) passes
+    comes-parted : (log : Seen) (parting : Parting) (passed : Result (Unit {0}) WriteFailed) → CameTo s symbols actions rest input left from now (Ok parting) → PassesOn now.log log passed → ComesOf s symbols actions rest bytes old (new log tape) (told_with parting passed stop torn)
+    comes-parted log partings.Over passed came passes = parted log partings.Over passed stop torn refl refl came.0 came.1.1 came.1.0 passes
+    comes-parted log partings.Left passed came passes = parted log partings.Left passed stop torn refl refl came.0 came.1.2 (came.1.0, came.1.1) passes
+    comes-parted log partings.Ended passed came passes = parted log partings.Ended passed stop torn refl refl came.0 came.4 (came.1, came.2, came.3) passes
 
   -- or was broken off
-  comes-broken : (fault : PlayFault) (b : Bool) → stop ≡ b → CameTo s symbols actions rest input left from now (Err fault) → (now.stopped ≡ true → stop ≡ true) → ComesOf s symbols actions rest bytes old (new now.log) (Err fault)
-  comes-broken faults.NoMemory b e came stays = came.1
-  comes-broken faults.Read b e came stays = (came.0, came.1, record { takes = came.2; none = came.4 }, written-by from.screen last bytes stop put none)
-  comes-broken faults.Log b e came stays = (came.0, came.1, written-by from.screen last bytes stop put none)
-  comes-broken faults.Screen true e came stays = (came.0, came.1.0, subst (λ x. PutsBy from.screen false last x bytes) e put)
-  comes-broken faults.Screen false e came stays = let yes = stays came.1.1 in absurd cc
+  comes-broken : (fault : PlayFault) (b : Bool) → stop ≡ b → IsTaped s actions from now → CameTo s symbols actions rest input left from now (Err fault) → (now.stopped ≡ true → stop ≡ true) → ComesOf s symbols actions rest bytes old (new now.log now.tape) (Err fault)
+  comes-broken faults.NoMemory b e taped came stays = came.1
+  comes-broken faults.Read b e taped came stays = (came.0, came.1, record { takes = came.2; none = came.5 }, written-by from.screen last bytes stop put none, record { takes = taken-whole from.tape now.tape taped-text now.torn came.4 taped; none = came.6 })
+  comes-broken faults.Log b e taped came stays = (came.0, came.1, written-by from.screen last bytes stop put none, taken-by from.tape now.tape taped-text now.torn taped)
+  comes-broken faults.Screen true e taped came stays = (came.0, came.1.0, subst (λ x. PutsBy from.screen false last x bytes) e put, taken-by from.tape now.tape taped-text now.torn taped)
+  comes-broken faults.Screen false e taped came stays = let yes = stays came.1.1 in absurd cc
+  comes-broken faults.Tape b e taped came stays = (came.0, came.1.0, written-by from.screen last bytes stop put none, taken-cut from.tape now.tape taped-text now.torn came.1.2 taped)
 
 module _ (s : Session) (input left : Heard) (from now : Outside) (last : Seen) (stop : Bool) (Left : Session → Type 0)
     (put : (frames : List (List ℕ)) → PutsBy from.screen false now.screen now.stopped (concat frames) → PutsBy from.screen false last stop (concat frames ++ end_bytes)) (stays : now.stopped ≡ true → stop ≡ true) (none : stop ≡ false → last.kept ≡ []) where
   abbrev pub begun : Ports
-  begun = record { input = input; log = from.log; screen = from.screen }
+  begun = record { input = input; log = from.log; screen = from.screen; tape = from.tape }
 
-  abbrev pub ended : Seen → Ports
-  ended log = record { input = left; log = log; screen = last }
+  abbrev pub ended : (log tape : Seen) → Ports
+  ended log tape = record { input = left; log = log; screen = last; tape = tape }
 
-  pub plays-parted : (log : Seen) (parting : Parting) (passed : Result (Unit {0}) WriteFailed) (result : Result Parting PlayFault) → result ≡ told_with parting passed stop → HasRun s input left from now Left (Ok parting) → PassesOn now.log log passed → Plays from.painter.colours s begun (ended log) Left result
-  plays-parted log parting passed result is run passes = record {
+  pub plays-parted : (log tape : Seen) (torn : Bool) (parting : Parting) (passed : Result (Unit {0}) WriteFailed) (result : Result Parting PlayFault) → result ≡ told_with parting passed stop torn → HasRun s input left from now Left (Ok parting) → PassesOn now.log log passed → PutsBy now.tape now.torn tape torn [] → (torn ≡ false → tape.kept ≡ []) → Plays from.painter.colours s begun (ended log tape) Left result
+  plays-parted log tape torn parting passed result is run passes puts clear = record {
     symbols = run.symbols;
     actions = run.actions;
     rest = run.rest;
@@ -260,11 +305,12 @@ module _ (s : Session) (input left : Heard) (from now : Outside) (last : Seen) (
     frames = run.shown.frames;
     shows = run.shown.shows;
     restores = restores s run.actions run.shown.frames run.shown.shows;
-    comes = subst (ComesOf s run.symbols run.actions run.rest (concat run.shown.frames ++ end_bytes) begun (ended log)) (sym is)
-        (comes-parted s run.symbols run.actions run.rest input left from now last (concat run.shown.frames ++ end_bytes) stop (put run.shown.frames run.shown.put) none log parting passed run.came passes);
+    comes = subst (ComesOf s run.symbols run.actions run.rest (concat run.shown.frames ++ end_bytes) begun (ended log tape)) (sym is)
+        (comes-parted s run.symbols run.actions run.rest input left from now last (concat run.shown.frames ++ end_bytes) stop (put run.shown.frames run.shown.put) none
+        tape torn (put-still from.tape now.tape tape now.torn torn (script_text (events_in s.desc run.actions)) run.taped puts) clear log parting passed run.came passes);
   }
 
-  pub plays-broken : (fault : PlayFault) → HasRun s input left from now Left (Err fault) → Plays from.painter.colours s begun (ended now.log) Left (Err fault)
+  pub plays-broken : (fault : PlayFault) → HasRun s input left from now Left (Err fault) → Plays from.painter.colours s begun (ended now.log now.tape) Left (Err fault)
   plays-broken fault run = record {
     symbols = run.symbols;
     actions = run.actions;
@@ -274,7 +320,7 @@ module _ (s : Session) (input left : Heard) (from now : Outside) (last : Seen) (
     frames = run.shown.frames;
     shows = run.shown.shows;
     restores = restores s run.actions run.shown.frames run.shown.shows;
-    comes = comes-broken s run.symbols run.actions run.rest input left from now last (concat run.shown.frames ++ end_bytes) stop (put run.shown.frames run.shown.put) none fault stop refl run.came stays;
+    comes = comes-broken s run.symbols run.actions run.rest input left from now last (concat run.shown.frames ++ end_bytes) stop (put run.shown.frames run.shown.put) none fault stop refl run.taped run.came stays;
   }
 
 -- what was played, as it stands once what was lent is back
@@ -284,11 +330,13 @@ plays-told colours s first last Left (Err faults.NoMemory) p = absurd p.comes
 plays-told colours s first last Left (Err faults.Read) p = p
 plays-told colours s first last Left (Err faults.Log) p = p
 plays-told colours s first last Left (Err faults.Screen) p = p
+plays-told colours s first last Left (Err faults.Tape) p = p
 
-pub plays-lent : {L : Type 0} {colours : Colours} (stands : L → Session → Type 0) (stage stage' : L) (s : Session) (old : Ports) (input : Heard) (log log' screen screen' : Seen) (result : Result Parting PlayFault) → stage ≡ stage' → log ≡ log' → screen ≡ screen' → Plays colours s old (record { input = input; log = log; screen = screen }) (stands stage) result
-    → PlaysTo colours s old (record { input = input; log = log'; screen = screen' }) (stands stage') result
-plays-lent {L} {colours} stands stage stage' s old input log log' screen screen' result one same alike p =
-    plays-told colours s old (record { input = input; log = log'; screen = screen' }) (stands stage') result
-    (subst (λ (x : L). Plays colours s old (record { input = input; log = log'; screen = screen' }) (stands x) result) one
-    (subst (λ (x : Seen). Plays colours s old (record { input = input; log = log'; screen = x }) (stands stage) result) alike
-    (subst (λ (x : Seen). Plays colours s old (record { input = input; log = x; screen = screen }) (stands stage) result) same p)))
+pub plays-lent : {L : Type 0} {colours : Colours} (stands : L → Session → Type 0) (stage stage' : L) (s : Session) (old : Ports) (input : Heard) (log log' screen screen' tape tape' : Seen) (result : Result Parting PlayFault) → stage ≡ stage' → log ≡ log' → screen ≡ screen' → tape ≡ tape' → Plays colours s old (record { input = input; log = log; screen = screen; tape = tape }) (stands stage) result
+    → PlaysTo colours s old (record { input = input; log = log'; screen = screen'; tape = tape' }) (stands stage') result
+plays-lent {L} {colours} stands stage stage' s old input log log' screen screen' tape tape' result one same alike kept p =
+    plays-told colours s old (record { input = input; log = log'; screen = screen'; tape = tape' }) (stands stage') result
+    (subst (λ (x : L). Plays colours s old (record { input = input; log = log'; screen = screen'; tape = tape' }) (stands x) result) one
+    (subst (λ (x : Seen). Plays colours s old (record { input = input; log = log'; screen = screen'; tape = x }) (stands stage) result) kept
+    (subst (λ (x : Seen). Plays colours s old (record { input = input; log = log'; screen = x; tape = tape }) (stands stage) result) alike
+    (subst (λ (x : Seen). Plays colours s old (record { input = input; log = x; screen = screen; tape = tape }) (stands stage) result) same p))))

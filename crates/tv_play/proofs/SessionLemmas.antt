@@ -11,7 +11,8 @@ use Rattle.tv_machine.specs.Run.{Session, quiet, stepped}
 use Rattle.tv_model.specs.Log.LogText.{log_text}
 use Rattle.tv_machine.specs.declared.script.Item.{Item}
 use Rattle.tv_machine.specs.declared.script.Item.TheVariants as items
-use Rattle.tv_play.specs.Ends.{script_with, session_at}
+use Rattle.tv_play.specs.Ends.{session_at}
+use Rattle.tv_script.specs.Tapes.{script_with}
 use Rattle.tv_script.proofs.RunLemmas.{states-push, texts-push}
 
 pub session-push : (s : Session) (events : List Event) (e : Event) → session_at s (events ++ e ∷ []) ≡ stepped (session_at s events) e

@@ -29,6 +29,7 @@ use Rattle.tv_machine.specs.Run.{Session, quiet, stepped}
 use Rattle.tv_model.specs.Description.Numbers.{natural}
 use Rattle.tv_model.specs.declared.desc.Desc.{Desc}
 use Rattle.tv_play.specs.Cursor.{FindsCursor}
+use Rattle.tv_play.specs.Edge.{brought}
 use Rattle.tv_play.specs.Ends.{events_in, is_refreshing, is_refused, reached, refusals}
 use Rattle.tv_play.specs.Shown.{HasRoom, HasSize, IsScreenPlace, IsRestored, KeepsScreen, ShowsEach, ShowsFrames, ShowsSession, is_whole, normal_of, refusals_to}
 use Rattle.tv_play.specs.Steps.{HasTaken, HasBeenShown}
@@ -191,7 +192,7 @@ module _ (s : Session) (actions : List Action) (e : Event) (calm : is_refreshing
   before = reached s actions
 
   abbrev pub now : Session
-  now = stepped (reached s actions) e
+  now = stepped (reached s actions) (brought s.desc e)
 
   same-place : {column row : ℕ} → IsScreenPlace now column row → IsScreenPlace before column row
   same-place on = record { across = on.across; down = on.down }

@@ -1,5 +1,5 @@
 -- What comes of an action in a terminal, and what ends a run there.
-use Rattle.std.specs.Prelude.{◌≡◌, ℕ, ◌+◌, Bool, true, false, not, ◌&&◌, ◌||◌, if◌then◌else◌, List, [], ◌∷◌, map}
+use Rattle.std.specs.Prelude.{◌≡◌, ℕ, ◌+◌, Bool, true, false, not, ◌&&◌, ◌||◌, if◌then◌else◌, List, [], ◌∷◌}
 use Rattle.std.specs.Prelude.{flat_map, is_some, length, ◌==◌}
 use Rattle.std.specs.List.{list_any}
 use Rattle.tv_event.specs.declared.event.Event.{Event as Happening}
@@ -12,18 +12,15 @@ use Rattle.tv_model.specs.declared.desc.Desc.{Desc}
 use Rattle.tv_model.specs.declared.log.LogLine.{LogLine}
 use Rattle.tv_model.specs.declared.log.LogLine.TheVariants as lines
 use Rattle.tv_machine.specs.declared.script.Item.{Item}
-use Rattle.tv_machine.specs.declared.script.Item.TheVariants as items
 use Rattle.tv_model.specs.Faults.Letters.{is_same_key}
+use Rattle.tv_play.specs.Edge.{brought}
 use Rattle.tv_play.specs.declared.ends.Step.{Step}
 use Rattle.tv_play.specs.declared.ends.Step.TheVariants as steps
+use Rattle.tv_script.specs.Tapes.{script_with}
 use Rattle.tv_terminal.specs.declared.action.Action.{Action}
 use Rattle.tv_terminal.specs.declared.action.Action.TheVariants.{Event, Quit, Reported}
 
 -- ---- events
-
--- the script that has these events and nothing else
-abbrev pub script_with : List Happening → List Item
-script_with events = map items.Event events
 
 -- the session to which events lead, with the log of the last one
 abbrev pub session_at : Session → List Happening → Session
@@ -46,13 +43,13 @@ is_refreshing d Reported = true
 is_refreshing d (Event (events.Key k)) = is_same_key k refresh && not (has_refresh d)
 is_refreshing d (Event event) = false
 
--- the events that are performed among actions: all but those
-abbrev pub event_in : Action → List Happening
-event_in (Event event) = event ∷ []
-event_in _ = []
+-- the events that are performed among actions: all but those, brought to the screen
+abbrev pub event_in : Desc → Action → List Happening
+event_in d (Event event) = brought d event ∷ []
+event_in d _ = []
 
 abbrev pub events_in : Desc → List Action → List Happening
-events_in d actions = flat_map (λ action. if is_refreshing d action then [] else event_in action) actions
+events_in d actions = flat_map (λ action. if is_refreshing d action then [] else event_in d action) actions
 
 -- the session to which actions lead
 abbrev pub reached : Session → List Action → Session

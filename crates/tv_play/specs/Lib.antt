@@ -1,5 +1,7 @@
 -- what comes from a terminal, in pieces
 pub mod Pieces
+-- the edge of the screen
+pub mod Edge
 -- what ends a run in a terminal
 pub mod Ends
 -- the cursor of the focused input
@@ -10,5 +12,9 @@ pub mod Shown
 pub mod Steps
 -- what a run in a terminal comes to
 pub mod Playing
+-- where it is written
+pub mod Outputs
 -- the player of a run in a terminal
 pub mod Player
+-- what is heard of a user, as a script
+pub mod Taped

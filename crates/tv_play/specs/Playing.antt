@@ -1,5 +1,5 @@
 -- What a run in a terminal comes to.
-use Rattle.std.specs.Prelude.{◌≡◌, ◌⊎◌, ℕ, Bool, true, false, List, [], ◌++◌, Result, Ok, Err}
+use Rattle.std.specs.Prelude.{◌≡◌, ◌⊎◌, ℕ, Bool, true, false, List, [], ◌++◌, None, Result, Ok, Err}
 use Rattle.std.specs.List.{concat}
 use Rattle.tv_terminal.specs.Written.{end_bytes}
 use Rattle.tv_io.specs.Writer.{Cuts, Seen, Takes}
@@ -9,7 +9,8 @@ use Rattle.tv_machine.specs.Run.{Session}
 use Rattle.tv_terminal.specs.Decoding.{Symbol}
 use Rattle.tv_terminal.specs.declared.action.Action.{Action}
 use Rattle.tv_terminal.specs.declared.colour.Colours.{Colours}
-use Rattle.tv_play.specs.Ends.{is_finished, reached, script_of}
+use Rattle.tv_script.specs.Tapes.{script_text}
+use Rattle.tv_play.specs.Ends.{events_in, is_finished, reached, script_of}
 use Rattle.tv_play.specs.Pieces.{ComesNot, HasCome, Heard}
 use Rattle.tv_play.specs.Shown.{IsRestored, ShowsEach}
 use Rattle.tv_play.specs.Steps.{IsAtEnd, IsHeard, LeavesWith}
@@ -27,11 +28,20 @@ pub record IsWrittenOut (old new : Seen) (text : List ℕ) : Type 0 where
 abbrev pub IsWrittenOrCut : (old new : Seen) → List ℕ → Type 0
 IsWrittenOrCut old new text = IsWrittenOut old new text ⊎ Cuts old new text
 
--- a run's input and its two outputs
+-- the whole text was written, of which something may be kept back, or the writer failed
+abbrev pub IsTakenOrCut : (old new : Seen) → List ℕ → Type 0
+IsTakenOrCut old new text = Takes old new text ⊎ Cuts old new text
+
+-- a run's input and its three outputs
 pub record Ports : Type 0 where
   pub input : Heard
   pub log : Seen
   pub screen : Seen
+  pub tape : Seen
+
+-- what is known of a tape that keeps nothing
+abbrev pub untaped : Seen
+untaped = record { taken = None; kept = []; failures = 0 }
 
 -- why it ended by itself, by the user, or by its input
 abbrev pub PartsBy : (s : Session) → List Action → Heard → List Symbol → List Action → Parting → Type 0
@@ -48,6 +58,7 @@ pub record IsPlayed (s : Session) (symbols : List Symbol) (actions rest : List A
   pub came : HasCome old.input new.input symbols
   pub log : IsWrittenOut old.log new.log (output s (script_of s.desc actions))
   pub screen : IsWrittenOut old.screen new.screen bytes
+  pub tape : IsWrittenOut old.tape new.tape (script_text (events_in s.desc actions))
   pub parts : PartsBy s actions new.input symbols rest parting
 
 -- what came of one that was broken off
@@ -57,12 +68,19 @@ abbrev pub IsBroken : (s : Session) (symbols : List Symbol) (actions rest : List
 IsBroken s symbols actions rest bytes old new faults.Read =
     ((mid : Heard) × HasCome old.input mid symbols × ComesNot mid new.input) × (rest ≡ [])
     × IsWrittenOut old.log new.log (output s (script_of s.desc actions)) × IsWrittenOrCut old.screen new.screen bytes
+    × IsWrittenOut old.tape new.tape (script_text (events_in s.desc actions))
 IsBroken s symbols actions rest bytes old new faults.Log =
     HasCome old.input new.input symbols
     × Cuts old.log new.log (output s (script_of s.desc actions)) × IsWrittenOrCut old.screen new.screen bytes
+    × IsTakenOrCut old.tape new.tape (script_text (events_in s.desc actions))
 IsBroken s symbols actions rest bytes old new faults.Screen =
     HasCome old.input new.input symbols
     × Takes old.log new.log (output s (script_of s.desc actions)) × Cuts old.screen new.screen bytes
+    × IsTakenOrCut old.tape new.tape (script_text (events_in s.desc actions))
+IsBroken s symbols actions rest bytes old new faults.Tape =
+    HasCome old.input new.input symbols
+    × Takes old.log new.log (output s (script_of s.desc actions)) × IsWrittenOrCut old.screen new.screen bytes
+    × Cuts old.tape new.tape (script_text (events_in s.desc actions))
 IsBroken s symbols actions rest bytes old new faults.NoMemory = ⊥
 
 abbrev pub ComesOf : (s : Session) (symbols : List Symbol) (actions rest : List Action)
@@ -72,8 +90,9 @@ ComesOf s symbols actions rest bytes old new (Ok parting) =
     IsPlayed s symbols actions rest bytes old new parting
 ComesOf s symbols actions rest bytes old new (Err fault) = IsBroken s symbols actions rest bytes old new fault
 
--- A run from a session, shown by some colours. The actions are the first of what the symbols that came mean; the session that is left is
--- the one to which their events lead; the log is what the script of these writes. A terminal that is told what
+-- A run from a session, shown by some colours. The actions are the first of what the symbols that came mean; the
+-- session that is left is the one to which their events lead; the log is what the script of these writes, and the
+-- tape has their lines. A terminal that is told what
 -- was written for the screen shows the session's screen at the beginning and after each action, also where it
 -- showed something else before an action that has the screen painted anew, and at the end what it showed
 -- before. Before each call of the input, and at the end, what was written is passed on
@@ -100,8 +119,10 @@ abbrev pub PlaysTo : (colours : Colours) (s : Session) (old new : Ports) (Left :
 PlaysTo colours s old new Left (Err faults.NoMemory) = IsUnbegun s old new Left
 PlaysTo colours s old new Left result = Plays colours s old new Left result
 
--- a run that ended by itself, but for a log that couldn't be passed on, or a screen that couldn't be written
-abbrev pub told_with : Parting → Result (Unit {0}) WriteFailed → Bool → Result Parting PlayFault
-told_with parting (Err failed) stopped = Err faults.Log
-told_with parting (Ok passed) true = Err faults.Screen
-told_with parting (Ok passed) false = Ok parting
+-- a run that ended by itself, but for a log that couldn't be passed on, or a screen or a tape that couldn't be
+-- written
+abbrev pub told_with : Parting → Result (Unit {0}) WriteFailed → (stopped torn : Bool) → Result Parting PlayFault
+told_with parting (Err failed) stopped torn = Err faults.Log
+told_with parting (Ok passed) true torn = Err faults.Screen
+told_with parting (Ok passed) false true = Err faults.Tape
+told_with parting (Ok passed) false false = Ok parting

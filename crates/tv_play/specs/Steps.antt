@@ -16,7 +16,8 @@ use Rattle.tv_machine.specs.Run.{Session}
 use Rattle.tv_script.specs.Streams.{Performs}
 use Rattle.tv_terminal.specs.Decoding.{Symbol, decode}
 use Rattle.tv_terminal.specs.declared.action.Action.{Action}
-use Rattle.tv_play.specs.Ends.{is_finished, is_leaving, reached, script_of}
+use Rattle.tv_script.specs.Tapes.{script_text}
+use Rattle.tv_play.specs.Ends.{events_in, is_finished, is_leaving, reached, script_of}
 use Rattle.tv_play.specs.Pieces.{ComesNot, HasCome, HasEnded, Heard}
 use Rattle.tv_play.specs.Shown.{HasRoom, HasSize, ShowsEach, is_whole}
 use Rattle.tv_play.specs.declared.pieces.Piece.{Piece}
@@ -58,12 +59,19 @@ pub record IsHeard (s : Session) (symbols : List Symbol) (actions rest : List Ac
 
 -- ---- the run
 
--- what the two writers took, whether that of the screen failed, and what the terminal is taken to show
+-- what the three writers took, whether that of the screen or that of the tape failed, and what the terminal is
+-- taken to show
 pub record Outside : Type 0 where
   pub log : Seen
   pub screen : Seen
+  pub tape : Seen
   pub stopped : Bool
+  pub torn : Bool
   pub painter : Painter
+
+-- the lines of the events that were performed were written on the tape, or a part of them if it failed
+abbrev pub IsTaped : (s : Session) → List Action → (from now : Outside) → Type 0
+IsTaped s actions from now = PutsBy from.tape false now.tape now.torn (script_text (events_in s.desc actions))
 
 -- it goes on: all that was meant was performed
 pub record IsPlaying (s : Session) (symbols : List Symbol) (from now : Outside) (Left : Session → Type 0)
@@ -73,7 +81,9 @@ pub record IsPlaying (s : Session) (symbols : List Symbol) (from now : Outside) 
   pub goes : is_finished (reached s actions) ≡ false
   pub shown : HasBeenShown from.painter.colours s actions from.screen now.screen now.stopped now.painter
   pub performs : Performs s (script_of s.desc actions) from.log now.log Left
+  pub taped : IsTaped s actions from now
   pub going : now.stopped ≡ false
+  pub whole : now.torn ≡ false
 
 -- the user leaves with the first of these
 abbrev pub LeavesWith : Session → List Action → Type 0
@@ -85,13 +95,15 @@ abbrev pub IsEndedBy : (s : Session) (actions rest : List Action) (from now : Ou
     → Result Parting PlayFault → Type 0
 IsEndedBy s actions rest from now (Ok partings.Over) =
     (is_finished (reached s actions) ≡ true) × Takes from.log now.log (output s (script_of s.desc actions))
-    × (now.stopped ≡ false)
+    × (now.stopped ≡ false) × (now.torn ≡ false)
 IsEndedBy s actions rest from now (Ok partings.Left) =
     (is_finished (reached s actions) ≡ false) × LeavesWith s rest
-    × Takes from.log now.log (output s (script_of s.desc actions)) × (now.stopped ≡ false)
+    × Takes from.log now.log (output s (script_of s.desc actions)) × (now.stopped ≡ false) × (now.torn ≡ false)
 IsEndedBy s actions rest from now (Err faults.Log) = Cuts from.log now.log (output s (script_of s.desc actions))
 IsEndedBy s actions rest from now (Err faults.Screen) =
     Takes from.log now.log (output s (script_of s.desc actions)) × (now.stopped ≡ true)
+IsEndedBy s actions rest from now (Err faults.Tape) =
+    Takes from.log now.log (output s (script_of s.desc actions)) × (now.stopped ≡ false) × (now.torn ≡ true)
 IsEndedBy s actions rest from now _ = ⊥
 
 -- it ended
@@ -102,6 +114,7 @@ pub record HasPlayedOut (s : Session) (symbols : List Symbol) (from now : Outsid
   pub heard : IsHeard s symbols actions rest
   pub shown : HasBeenShown from.painter.colours s actions from.screen now.screen now.stopped now.painter
   pub left : Left (after s (script_of s.desc actions))
+  pub taped : IsTaped s actions from now
   pub ended : IsEndedBy s actions rest from now outcome
 
 -- it goes on, or ended so
@@ -122,10 +135,11 @@ abbrev pub CameTo : (s : Session) (symbols : List Symbol) (actions rest : List A
 CameTo s symbols actions rest input later from now (Ok partings.Ended) =
     HasCome input later symbols × (is_finished (reached s actions) ≡ false) × (rest ≡ [])
     × IsAtEnd later symbols
-    × Takes from.log now.log (output s (script_of s.desc actions)) × (now.stopped ≡ false)
+    × Takes from.log now.log (output s (script_of s.desc actions)) × (now.stopped ≡ false) × (now.torn ≡ false)
 CameTo s symbols actions rest input later from now (Err faults.Read) =
     ((mid : Heard) × HasCome input mid symbols × ComesNot mid later) × (rest ≡ [])
-    × Takes from.log now.log (output s (script_of s.desc actions)) × (now.stopped ≡ false) × (now.log.kept ≡ [])
+    × Takes from.log now.log (output s (script_of s.desc actions)) × (now.stopped ≡ false) × (now.torn ≡ false)
+    × (now.log.kept ≡ []) × (now.tape.kept ≡ [])
 CameTo s symbols actions rest input later from now outcome =
     HasCome input later symbols × IsEndedBy s actions rest from now outcome
 
@@ -138,17 +152,20 @@ pub record HasRun (s : Session) (input later : Heard) (from now : Outside) (Left
   pub heard : IsHeard s symbols actions rest
   pub shown : HasBeenShown from.painter.colours s actions from.screen now.screen now.stopped now.painter
   pub left : Left (after s (script_of s.desc actions))
+  pub taped : IsTaped s actions from now
   pub came : CameTo s symbols actions rest input later from now outcome
 
 -- ---- an action
 
 -- how a run ends with an action: by whether nothing can happen any more, whether its log was written, and
--- whether the writer of the screen failed
-abbrev pub outcome_of : Bool → Result (Unit {0}) WriteFailed → Bool → Option (Result Parting PlayFault)
-outcome_of finished (Err failed) stopped = Some (Err faults.Log)
-outcome_of finished (Ok written) true = Some (Err faults.Screen)
-outcome_of true (Ok written) false = Some (Ok partings.Over)
-outcome_of false (Ok written) false = None
+-- whether the writer of the screen or that of the tape failed
+abbrev pub outcome_of : Bool → Result (Unit {0}) WriteFailed → (stopped torn : Bool)
+    → Option (Result Parting PlayFault)
+outcome_of finished (Err failed) stopped torn = Some (Err faults.Log)
+outcome_of finished (Ok written) true torn = Some (Err faults.Screen)
+outcome_of finished (Ok written) false true = Some (Err faults.Tape)
+outcome_of true (Ok written) false false = Some (Ok partings.Over)
+outcome_of false (Ok written) false false = None
 
 -- the same after a piece, which may be the last
 abbrev pub or_end : Option (Result Parting PlayFault) → Piece → Option (Result Parting PlayFault)
@@ -157,6 +174,6 @@ or_end None pieces.End = Some (Ok partings.Ended)
 or_end None (pieces.Bytes count) = None
 or_end None pieces.Pause = None
 
-abbrev pub outside : (log screen : Seen) (stopped : Bool) → Painter → Outside
-outside log screen stopped painter =
-    record { log = log; screen = screen; stopped = stopped; painter = painter }
+abbrev pub outside : (log screen tape : Seen) (stopped torn : Bool) → Painter → Outside
+outside log screen tape stopped torn painter =
+    record { log = log; screen = screen; tape = tape; stopped = stopped; torn = torn; painter = painter }

@@ -2,9 +2,11 @@
 #![tactic(auto)]
 
 mod cursor;
+mod edge;
 mod ends;
 mod journal;
 mod live;
+mod outputs;
 mod parting;
 mod pieces;
 mod player;
@@ -12,7 +14,9 @@ mod playing;
 mod session;
 mod show;
 
+pub use edge::heard_can_be_said;
 pub use live::Live;
+pub use outputs::{NoTape, Outputs};
 pub use parting::{Parting, PlayFault};
 pub use pieces::{Piece, Pieces};
 pub use playing::play;

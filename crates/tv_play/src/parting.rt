@@ -28,4 +28,7 @@ pub enum PlayFault {
     /// The screen can't be written.
     #[error("cannot write the screen")]
     Screen,
+    /// What the user did can't be recorded.
+    #[error("cannot write the tape")]
+    Tape,
 }

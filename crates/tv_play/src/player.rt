@@ -8,9 +8,10 @@ ghost use Rattle.tv_play.specs.Pieces.{FitsRoom, symbols_in};
 ghost use Rattle.tv_play.specs.Player.{Acts, Hears, IsReady, KeepsPlayer};
 ghost use Rattle.tv_play.specs.Steps.{outcome_of};
 ghost use Rattle.tv_terminal.specs.Decoding.{Byte, Pause, before};
-ghost use Rattle.tv_terminal.specs.Points.{IsPlaced, IsPlacedAction};
+ghost use Rattle.tv_terminal.specs.Sent.{IsSent, IsSentAction};
 ghost use Rattle.tv_terminal.specs.declared.action.Action.TheVariants as actions;
 
+use crate::edge::brought;
 use crate::ends::{Step, is_finished, step_of};
 use crate::journal::write_log;
 use crate::live::Live;
@@ -19,38 +20,44 @@ use crate::pieces::Piece;
 use crate::show;
 use tv_event::Event;
 use tv_io::{Pen, WriteFailed, Writer};
+use tv_script::put_event_line;
 use tv_terminal::{Action, Decoder, Painter};
 
 /// How a run in a terminal ends.
 pub(crate) type Outcome = Result<Parting, PlayFault>;
 
-/// A run in a terminal: what is run, what the terminal is taken to show, where its bytes and the log go, and what was read.
+/// A run in a terminal: what is run, what the terminal is taken to show, where its bytes, the log and the events go, and what
+/// was read.
 ///
 /// It owns no memory, so that what it is lent is given back where it is let go.
 #[derive(Drop)]
-pub(crate) struct Player<'s, 'p, 't, 'w, L: Live, T: Writer, W: Writer> {
+pub(crate) struct Player<'s, 'p, 't, 'w, 'r, L: Live, T: Writer, W: Writer, R: Writer> {
     pub(crate) stage: &'s mut L,
     pub(crate) painter: &'p mut Painter,
     pub(crate) pen: Pen<'t, T>,
     pub(crate) log: &'w mut W,
+    pub(crate) tape: Pen<'r, R>,
     pub(crate) decoder: Decoder,
 }
 
-impl<L: Live, T: Writer, W: Writer> Player<'_, '_, '_, '_, L, T, W> {
-    // Performs an event: the terminal shows what it changes, and its log is written. Tells how the run ends with it, if it does.
-    fn act(&mut self, event: &Event) -> Option<Outcome>
-        requires near { IsPlaced event.now }
+impl<L: Live, T: Writer, W: Writer, R: Writer> Player<'_, '_, '_, '_, '_, L, T, W, R> {
+    // Performs an event, brought to the screen, once its line is on the tape: the terminal shows what it changes, and its log is
+    // written. Tells how the run ends with it, if it does.
+    fn act(&mut self, told: &Event) -> Option<Outcome>
+        requires sent { IsSent told.now }
         requires taken { (t : Session) → L.stands self.old.stage.now t
-            → IsTakenFor t.desc (actions.Event event.now) (steps.Perform event.now) }
+            → IsTakenFor t.desc (actions.Event told.now) (steps.Perform told.now) }
         requires ready { IsReady L.stands self.old }
         ensures kept { KeepsPlayer L.stands self.old self.new result }
-        ensures acts { Acts L.stands T.seen W.seen self.old self.new (actions.Event event.now ∷ []) result }
+        ensures acts { Acts L.stands T.seen W.seen R.seen self.old self.new (actions.Event told.now ∷ []) result }
     {
-        self.stage.react(event);
+        let event = brought(self.stage.desc(), told);
+        put_event_line(&mut self.tape, &event);
+        self.stage.react(&event);
         show::repaint(self.painter, &mut self.pen, self.stage);
         let is_finished = is_finished(self.stage);
         let written = write_log(self.log, self.stage);
-        outcome_of(is_finished, written, self.pen.stopped)
+        outcome_of(is_finished, written, self.pen.stopped, self.tape.stopped)
     }
 
     // Paints the whole screen anew, for an action that asks for it.
@@ -58,18 +65,18 @@ impl<L: Live, T: Writer, W: Writer> Player<'_, '_, '_, '_, L, T, W> {
         requires taken { (t : Session) → L.stands self.old.stage.now t → IsTakenFor t.desc action steps.Refresh }
         requires ready { IsReady L.stands self.old }
         ensures kept { KeepsPlayer L.stands self.old self.new result }
-        ensures acts { Acts L.stands T.seen W.seen self.old self.new (action ∷ []) result }
+        ensures acts { Acts L.stands T.seen W.seen R.seen self.old self.new (action ∷ []) result }
     {
         show::show_all(self.painter, &mut self.pen, self.stage);
-        outcome_of(false, Ok(()), self.pen.stopped)
+        outcome_of(false, Ok(()), self.pen.stopped, self.tape.stopped)
     }
 
     // Takes what the user or the terminal did. Tells how the run ends with it, if it does.
     fn take_action(&mut self, action: Action) -> Option<Outcome>
-        requires placed { IsPlacedAction action }
+        requires sent { IsSentAction action }
         requires ready { IsReady L.stands self.old }
         ensures kept { KeepsPlayer L.stands self.old self.new result }
-        ensures acts { Acts L.stands T.seen W.seen self.old self.new (action ∷ []) result }
+        ensures acts { Acts L.stands T.seen W.seen R.seen self.old self.new (action ∷ []) result }
     {
         match step_of(self.stage.desc(), action) {
             Step::Leave => Some(Ok(Parting::Left)),
@@ -80,10 +87,10 @@ impl<L: Live, T: Writer, W: Writer> Player<'_, '_, '_, '_, L, T, W> {
 
     // The same, for what the user may have done.
     fn take_meant(&mut self, action: Option<Action>) -> Option<Outcome>
-        requires placed { IfSome action IsPlacedAction }
+        requires sent { IfSome action IsSentAction }
         requires ready { IsReady L.stands self.old }
         ensures kept { KeepsPlayer L.stands self.old self.new result }
-        ensures acts { Acts L.stands T.seen W.seen self.old self.new (before action []) result }
+        ensures acts { Acts L.stands T.seen W.seen R.seen self.old self.new (before action []) result }
     {
         let Some(action) = action else {
             return None;
@@ -95,7 +102,7 @@ impl<L: Live, T: Writer, W: Writer> Player<'_, '_, '_, '_, L, T, W> {
     fn take_bytes(&mut self, bytes: &[u8]) -> Option<Outcome>
         requires ready { IsReady L.stands self.old }
         ensures kept { KeepsPlayer L.stands self.old self.new result }
-        ensures hears { Hears L.stands T.seen W.seen self.old self.new (map Byte bytes.now) result }
+        ensures hears { Hears L.stands T.seen W.seen R.seen self.old self.new (map Byte bytes.now) result }
     {
         for byte in bytes {
             let action = self.decoder.take(*byte);
@@ -110,7 +117,7 @@ impl<L: Live, T: Writer, W: Writer> Player<'_, '_, '_, '_, L, T, W> {
     fn take_pause(&mut self) -> Option<Outcome>
         requires ready { IsReady L.stands self.old }
         ensures kept { KeepsPlayer L.stands self.old self.new result }
-        ensures hears { Hears L.stands T.seen W.seen self.old self.new (Pause ∷ []) result }
+        ensures hears { Hears L.stands T.seen W.seen R.seen self.old self.new (Pause ∷ []) result }
     {
         let action = self.decoder.pause();
         self.take_meant(action)
@@ -121,7 +128,7 @@ impl<L: Live, T: Writer, W: Writer> Player<'_, '_, '_, '_, L, T, W> {
         requires within { FitsRoom piece room.now }
         requires ready { IsReady L.stands self.old }
         ensures kept { KeepsPlayer L.stands self.old self.new result }
-        ensures hears { Hears L.stands T.seen W.seen self.old self.new (symbols_in piece room.now) result }
+        ensures hears { Hears L.stands T.seen W.seen R.seen self.old self.new (symbols_in piece room.now) result }
     {
         match bytes_in(piece, room) {
             Some(bytes) => self.take_bytes(bytes),
@@ -135,14 +142,18 @@ pub(crate) fn outcome_of(
     is_finished: bool,
     written: Result<(), WriteFailed>,
     is_stopped: bool,
+    is_torn: bool,
 ) -> Option<Outcome>
-    ensures { result ≡ outcome_of is_finished written is_stopped }
+    ensures { result ≡ outcome_of is_finished written is_stopped is_torn }
 {
     if written.is_err() {
         return Some(Err(PlayFault::Log));
     }
     if is_stopped {
         return Some(Err(PlayFault::Screen));
+    }
+    if is_torn {
+        return Some(Err(PlayFault::Tape));
     }
     if is_finished {
         return Some(Ok(Parting::Over));

@@ -4,6 +4,7 @@ ghost use Rattle.std.specs.Prelude.{◌≡◌, [], false, IfOk};
 ghost use Rattle.tv_terminal.specs.Decoding.{between};
 ghost use Rattle.tv_machine.specs.Run.{Session};
 ghost use Rattle.tv_play.specs.Player.{HasPlayed, HasSame, IsReady, outside_of, ports_of};
+ghost use Rattle.tv_play.specs.Outputs.{HasSameOutputs, ports_with};
 ghost use Rattle.tv_play.specs.Playing.{Plays, PlaysTo, told_with};
 ghost use Rattle.tv_play.specs.Shown.{HasSize};
 ghost use Rattle.tv_play.specs.Steps.{HasRun, Outside, or_end};
@@ -11,6 +12,7 @@ ghost use Rattle.tv_play.specs.Steps.{HasRun, Outside, or_end};
 use crate::ends::is_finished;
 use crate::journal::write_log;
 use crate::live::Live;
+use crate::outputs::Outputs;
 use crate::parting::{Parting, PlayFault};
 use crate::pieces::{Piece, Pieces};
 use crate::player::{Outcome, Player, outcome_of};
@@ -23,8 +25,9 @@ use tv_terminal::{Colours, Decoder, Painter};
 /// The bytes that are asked for at once.
 const PIECE: usize = 64;
 
-/// Plays a run in a terminal: takes what comes from the user in pieces, shows on `screen` what it leaves, in `colours`, and writes
-/// the log on `log`. What was written is passed on before each read, and at the end. Tells why it ended.
+/// Plays a run in a terminal: takes what comes from the user in pieces, shows on the outputs' `screen` what it leaves, in their
+/// `colours`, writes the log on `log`, and on `tape` a line for each event before it is performed, as a script has it. What was
+/// written is passed on before each read, and at the end. Tells why it ended.
 ///
 /// It takes memory before anything is read or written, and none after that. The terminal is turned to its alternate screen, and at
 /// the end back to its normal one, also where it is broken off.
@@ -33,25 +36,24 @@ const PIECE: usize = 64;
 ///
 /// - `NoMemory`: nothing was read or written.
 /// - `Read`: the reader failed. What came before was performed.
-/// - `Log`, `Screen`: that writer failed, or couldn't pass on what it took; a proper prefix of its text came out. Nothing more
+/// - `Log`, `Screen`, `Tape`: that writer failed, or couldn't pass on what it took; a proper prefix of its text came out. Nothing more
 ///   is read.
-pub fn play<L: Live, P: Pieces, T: Writer, W: Writer>(
+pub fn play<L: Live, P: Pieces, T: Writer, W: Writer, R: Writer>(
     alloc: Global,
     stage: &mut L,
     pieces: &mut P,
-    screen: &mut T,
-    log: &mut W,
-    colours: Colours,
+    outputs: &mut Outputs<T, W, R>,
 ) -> Result<Parting, PlayFault>
     requires there { (s : Session) × L.stands stage.old s }
-    ensures { (s : Session) → L.stands stage.old s
-        → PlaysTo colours s (record { input = P.heard pieces.old; log = W.seen log.old; screen = T.seen screen.old })
-        (record { input = P.heard pieces.new; log = W.seen log.new; screen = T.seen screen.new }) (L.stands stage.new) result }
+    ensures same { HasSameOutputs outputs.old outputs.new }
+    ensures plays { (s : Session) → L.stands stage.old s
+        → PlaysTo outputs.old.colours s (ports_with T.seen W.seen R.seen (P.heard pieces.old) outputs.old)
+        (ports_with T.seen W.seen R.seen (P.heard pieces.new) outputs.new) (L.stands stage.new) result }
 {
-    let Ok(mut painter) = painter_of(alloc, stage, colours) else {
+    let Ok(mut painter) = painter_of(alloc, stage, outputs.colours) else {
         return Err(PlayFault::NoMemory);
     };
-    play_with(stage, pieces, screen, log, &mut painter)
+    play_with(stage, pieces, outputs, &mut painter)
 }
 
 // A painter for its screen.
@@ -64,47 +66,52 @@ fn painter_of<L: Live>(alloc: Global, stage: &L, colours: Colours) -> Result<Pai
 }
 
 // Plays it with a painter for its screen.
-fn play_with<L: Live, P: Pieces, T: Writer, W: Writer>(
+fn play_with<L: Live, P: Pieces, T: Writer, W: Writer, R: Writer>(
     stage: &mut L,
     pieces: &mut P,
-    screen: &mut T,
-    log: &mut W,
+    outputs: &mut Outputs<T, W, R>,
     painter: &mut Painter,
 ) -> Outcome
     requires there { (t : Session) × L.stands stage.old t × HasSize t painter.old }
-    ensures { (s : Session) → L.stands stage.old s
-        → PlaysTo painter.old.colours s (record { input = P.heard pieces.old; log = W.seen log.old; screen = T.seen screen.old })
-        (record { input = P.heard pieces.new; log = W.seen log.new; screen = T.seen screen.new }) (L.stands stage.new) result }
+    ensures same { HasSameOutputs outputs.old outputs.new }
+    ensures plays { (s : Session) → L.stands stage.old s
+        → PlaysTo painter.old.colours s (ports_with T.seen W.seen R.seen (P.heard pieces.old) outputs.old)
+        (ports_with T.seen W.seen R.seen (P.heard pieces.new) outputs.new) (L.stands stage.new) result }
 {
     let mut player = Player {
         stage,
         painter,
         pen: Pen {
-            out: screen,
+            out: &mut *outputs.screen,
             stopped: false,
         },
-        log,
+        log: &mut *outputs.log,
+        tape: Pen {
+            out: &mut *outputs.tape,
+            stopped: false,
+        },
         decoder: Decoder::new(),
     };
     player.play_through(pieces)
 }
 
-impl<L: Live, T: Writer, W: Writer> Player<'_, '_, '_, '_, L, T, W> {
+impl<L: Live, T: Writer, W: Writer, R: Writer> Player<'_, '_, '_, '_, '_, L, T, W, R> {
     // Plays a run, and shows at the end what the terminal showed before.
     fn play_through<P: Pieces>(&mut self, pieces: &mut P) -> Outcome
         requires ready { IsReady L.stands self.old }
         requires fresh { self.old.decoder ≡ between false }
         ensures same { HasSame self.old self.new }
         ensures plays { (s : Session) → L.stands self.old.stage.now s
-            → Plays self.old.painter.now.colours s (ports_of T.seen W.seen (P.heard pieces.old) self.old)
-            (ports_of T.seen W.seen (P.heard pieces.new) self.new) (L.stands self.new.stage.now) result }
+            → Plays self.old.painter.now.colours s (ports_of T.seen W.seen R.seen (P.heard pieces.old) self.old)
+            (ports_of T.seen W.seen R.seen (P.heard pieces.new) self.new) (L.stands self.new.stage.now) result }
     {
         let outcome = self.play_begun(pieces);
         show::end(self.painter, &mut self.pen);
         match outcome {
             Ok(parting) => {
+                self.tape.pass_on();
                 let passed = self.log.pass_on();
-                told_with(parting, passed, self.pen.stopped)
+                told_with(parting, passed, self.pen.stopped, self.tape.stopped)
             }
             Err(fault) => Err(fault),
         }
@@ -116,13 +123,13 @@ impl<L: Live, T: Writer, W: Writer> Player<'_, '_, '_, '_, L, T, W> {
         requires fresh { self.old.decoder ≡ between false }
         ensures same { HasSame self.old self.new }
         ensures runs { (s : Session) → L.stands self.old.stage.now s
-            → HasRun s (P.heard pieces.old) (P.heard pieces.new) (outside_of T.seen W.seen self.old)
-            (outside_of T.seen W.seen self.new) (L.stands self.new.stage.now) result }
+            → HasRun s (P.heard pieces.old) (P.heard pieces.new) (outside_of T.seen W.seen R.seen self.old)
+            (outside_of T.seen W.seen R.seen self.new) (L.stands self.new.stage.now) result }
     {
         show::show_all(self.painter, &mut self.pen, self.stage);
         let is_finished = is_finished(self.stage);
         let written = write_log(self.log, self.stage);
-        match outcome_of(is_finished, written, self.pen.stopped) {
+        match outcome_of(is_finished, written, self.pen.stopped, self.tape.stopped) {
             Some(outcome) => outcome,
             None => self.play_all(pieces),
         }
@@ -132,15 +139,16 @@ impl<L: Live, T: Writer, W: Writer> Player<'_, '_, '_, '_, L, T, W> {
     fn play_all<P: Pieces>(&mut self, pieces: &mut P) -> Outcome
         requires ready { IsReady L.stands self.old }
         ensures same { HasSame self.old self.new }
-        ensures runs { (s : Session) (from : Outside) → HasPlayed L.stands T.seen W.seen s [] from self.old
-            → HasRun s (P.heard pieces.old) (P.heard pieces.new) from (outside_of T.seen W.seen self.new)
+        ensures runs { (s : Session) (from : Outside) → HasPlayed L.stands T.seen W.seen R.seen s [] from self.old
+            → HasRun s (P.heard pieces.old) (P.heard pieces.new) from (outside_of T.seen W.seen R.seen self.new)
             (L.stands self.new.stage.now) result }
     {
         let mut room = [0u8; PIECE];
         for turn in 0..u64::MAX {
             self.pen.pass_on();
+            self.tape.pass_on();
             let passed = self.log.pass_on();
-            if let Some(outcome) = outcome_of(false, passed, self.pen.stopped) {
+            if let Some(outcome) = outcome_of(false, passed, self.pen.stopped, self.tape.stopped) {
                 return outcome;
             }
             let Some(piece) = pieces.next(&mut room) else {
@@ -155,15 +163,23 @@ impl<L: Live, T: Writer, W: Writer> Player<'_, '_, '_, '_, L, T, W> {
     }
 }
 
-// How a run ended by itself, where the log may not have been passed on, or the screen not written.
-fn told_with(parting: Parting, passed: Result<(), WriteFailed>, is_stopped: bool) -> Outcome
-    ensures { result ≡ told_with parting passed is_stopped }
+// How a run ended by itself, where the log may not have been passed on, or the screen or the tape not written.
+fn told_with(
+    parting: Parting,
+    passed: Result<(), WriteFailed>,
+    is_stopped: bool,
+    is_torn: bool,
+) -> Outcome
+    ensures { result ≡ told_with parting passed is_stopped is_torn }
 {
     if passed.is_err() {
         return Err(PlayFault::Log);
     }
     if is_stopped {
         return Err(PlayFault::Screen);
+    }
+    if is_torn {
+        return Err(PlayFault::Tape);
     }
     Ok(parting)
 }

@@ -10,6 +10,7 @@ ghost use Rattle.tv_terminal.specs.declared.action.Action.TheVariants as variant
 ghost use Rattle.tv_io.specs.Pen.{PutsBy};
 ghost use Rattle.tv_io.specs.Writer.{Seen};
 ghost use Rattle.tv_machine.specs.Run.{Session, quiet, stepped};
+ghost use Rattle.tv_play.specs.Edge.{brought};
 ghost use Rattle.tv_play.specs.Ends.{is_refreshing, reached};
 ghost use Rattle.tv_play.specs.Shown.{HasSize, KeepsScreen};
 ghost use Rattle.tv_play.specs.Steps.{HasBeenShown};
@@ -37,15 +38,15 @@ pub(crate) fn show_all<L: Live, T: Writer>(painter: &mut Painter, pen: &mut Pen<
     painter.begin(screen, cursor, pen);
 }
 
-/// Shows what an event changed, and rings the bell where an input refused it.
+/// Shows what an event, brought to the screen, changed, and rings the bell where an input refused it.
 pub(crate) fn repaint<L: Live, T: Writer>(painter: &mut Painter, pen: &mut Pen<T>, stage: &L)
     requires there { (s : Session) × L.stands stage.now s × HasSize s painter.old }
     ensures size { (t : Session) → HasSize t painter.old → HasSize t painter.new }
     ensures same { pen.new.out.ghost_name ≡ pen.old.out.ghost_name }
     ensures shown { (colours : Colours) (s : Session) (actions : List Action) (event : Happening) (from : Seen)
         → is_refreshing s.desc (variants.Event event) ≡ false
-        → L.stands stage.now (stepped (reached s actions) event)
-        → KeepsScreen (L.repaints stage.now) (reached s actions) (stepped (reached s actions) event)
+        → L.stands stage.now (stepped (reached s actions) (brought s.desc event))
+        → KeepsScreen (L.repaints stage.now) (reached s actions) (stepped (reached s actions) (brought s.desc event))
         → HasBeenShown colours s actions from (T.seen pen.old.out.now) pen.old.stopped painter.old
         → HasBeenShown colours s (actions ++ variants.Event event ∷ []) from (T.seen pen.new.out.now) pen.new.stopped painter.new }
 {

@@ -83,6 +83,7 @@ module _ (Mismade : Desc → Type 0) (name : List ℕ) (d : Desc) (written : Lis
     unbegun (unrun.Script fault) refuses = (a, fit, refuses)
     unbegun unrun.Read refuses = (a, fit, refuses)
     unbegun unrun.Write refuses = (a, fit, refuses)
+    unbegun unrun.Tape refuses = (a, fit, refuses)
 
     -- a run can't begin
     pub unbegun-AnswersTo : (seen : Written) (full : Desc) (endings : List Ending) → full ≡ filled d a → endings ≡ endings_of d a → (fault : RunFault) → IsUnbegun Mismade full endings fault

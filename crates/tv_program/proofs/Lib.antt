@@ -3,6 +3,7 @@ pub mod AnsweredLemmas
 pub mod CheckLemmas
 pub mod FillLemmas
 mod PlayLemmas
+mod TapeLemmas
 pub mod RunLemmas
 pub mod GainLemmas
 pub mod DrawingLemmas

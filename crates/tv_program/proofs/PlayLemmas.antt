@@ -36,6 +36,7 @@ module _ (colours : Colours) (s : Session) (old new : Ports) (Left : Session →
   PlaysTo-gone (Err terminals.Read) p = Plays-gone (Err terminals.Read) p
   PlaysTo-gone (Err terminals.Log) p = Plays-gone (Err terminals.Log) p
   PlaysTo-gone (Err terminals.Screen) p = Plays-gone (Err terminals.Screen) p
+  PlaysTo-gone (Err terminals.Tape) p = Plays-gone (Err terminals.Tape) p
 
 module _ (Mismade : Desc → Type 0) (colours : Colours) (text : List ℕ) (ports : Ports) where
   -- the description is refused

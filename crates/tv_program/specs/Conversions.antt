@@ -96,6 +96,7 @@ terminal_run terminals.NoMemory = runs.NoMemory
 terminal_run terminals.Read = runs.Read
 terminal_run terminals.Log = runs.Write
 terminal_run terminals.Screen = runs.Write
+terminal_run terminals.Tape = runs.Tape
 
 -- ---- telling
 
@@ -128,6 +129,7 @@ run_told (runs.Script fault) = told.Script fault
 run_told runs.View = told.View
 run_told runs.Read = told.Read
 run_told runs.Write = told.Write
+run_told runs.Tape = told.Write
 
 -- a fault of filling
 abbrev pub fill_told : FillFault → Trouble

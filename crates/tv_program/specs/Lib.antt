@@ -20,6 +20,8 @@ pub mod Reading
 pub mod Report
 -- What playing a description in a terminal comes to
 pub mod Terminal
+-- The tape of a run in a terminal, run as a script
+pub mod Taped
 -- What an album has
 pub mod Albums
 -- What drawing a description's run comes to

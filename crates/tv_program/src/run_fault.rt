@@ -29,6 +29,8 @@ pub enum RunFault {
     Read,
     /// A writer failed, or took nothing.
     Write,
+    /// What the user did can't be recorded.
+    Tape,
 }
 
 impl From<AllocError> for RunFault {
@@ -106,6 +108,7 @@ impl From<PlayFault> for RunFault {
             PlayFault::NoMemory => RunFault::NoMemory,
             PlayFault::Read => RunFault::Read,
             PlayFault::Log | PlayFault::Screen => RunFault::Write,
+            PlayFault::Tape => RunFault::Tape,
         }
     }
 }

@@ -107,7 +107,7 @@ impl From<RunFault> for Trouble {
             RunFault::Script(unread) => Trouble::Script(unread),
             RunFault::View => Trouble::View,
             RunFault::Read => Trouble::Read,
-            RunFault::Write => Trouble::Write,
+            RunFault::Write | RunFault::Tape => Trouble::Write,
         }
     }
 }

@@ -5,7 +5,7 @@ use crate::running::{lines, ran};
 use std::alloc::Global;
 use std::test::Fail;
 use tv_check::Checked;
-use tv_play::{Parting, Piece, Pieces};
+use tv_play::{NoTape, Outputs, Parting, Piece, Pieces};
 use tv_program::play;
 use tv_terminal::Colours;
 use tv_test_support::Memory;
@@ -46,15 +46,14 @@ fn play_into(alloc: Global, sent: &[u8], screen: &mut Memory, log: &mut Memory) 
         left: sent,
         is_ended: false,
     };
-    let ended = play(
-        alloc,
-        ORDER.as_bytes(),
-        &mut sent,
-        &make,
+    let mut tape = NoTape;
+    let mut outputs = Outputs {
         screen,
+        colours: Colours::Sixteen,
         log,
-        Colours::Sixteen,
-    );
+        tape: &mut tape,
+    };
+    let ended = play(alloc, ORDER.as_bytes(), &mut sent, &make, &mut outputs);
     matches!(ended, Ok(Parting::Ended))
 }
 

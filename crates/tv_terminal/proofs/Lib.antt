@@ -1,7 +1,7 @@
 pub mod DecodeLemmas
 pub mod FrontLemmas
 pub mod StreamLemmas
-pub mod PointLemmas
+pub mod SentLemmas
 pub mod HeardLemmas
 pub mod PasteLemmas
 pub mod TypedLemmas

@@ -3,6 +3,7 @@ pub mod Sequences
 pub mod Decoding
 pub mod Streams
 pub mod Points
+pub mod Sent
 pub mod Rows
 -- A terminal, as what it makes of bytes
 pub mod Terminal

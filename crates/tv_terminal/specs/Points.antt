@@ -3,8 +3,6 @@ use Rattle.std.specs.Prelude.{ℤ, pos, ◌≤ℤ◌}
 use Rattle.tv_cells.specs.declared.rect.Point.{Point}
 use Rattle.tv_event.specs.declared.event.Event.{Event as Happening}
 use Rattle.tv_event.specs.declared.event.Event.TheVariants.{Down, Up, Move}
-use Rattle.tv_terminal.specs.declared.action.Action.{Action}
-use Rattle.tv_terminal.specs.declared.action.Action.TheVariants.{Event, Quit, Reported}
 
 -- a column or a row from 0 to 9,999
 pub record IsMousePlace (z : ℤ) : Type 0 where
@@ -21,8 +19,3 @@ IsPlaced (Down p) = HasPlaces p
 IsPlaced (Up p) = HasPlaces p
 IsPlaced (Move p) = HasPlaces p
 IsPlaced _ = Unit {0}
-
-abbrev pub IsPlacedAction : Action → Type 0
-IsPlacedAction (Event event) = IsPlaced event
-IsPlacedAction Quit = Unit {0}
-IsPlacedAction Reported = Unit {0}

@@ -2,7 +2,7 @@
 
 ghost use Rattle.std.specs.Prelude.{◌≡◌, [], ◌∷◌, IfSome, false, true};
 ghost use Rattle.tv_terminal.specs.Decoding.{HearsLeaving, at_pause, anew_given, anew_kept, between, given, heard, heard_at_pause, heard_while, is_pasted, left_by, pasting_after};
-ghost use Rattle.tv_terminal.specs.Points.{IsPlacedAction};
+ghost use Rattle.tv_terminal.specs.Sent.{IsSentAction};
 ghost use Rattle.tv_terminal.specs.Sequences.{reading_of};
 
 use crate::action::Action;
@@ -56,11 +56,11 @@ impl Decoder {
 
     /// Takes the next byte, and returns what the user did, if that is known with it. Ctrl-\ always is, and Ctrl-C unless it
     /// is pasted (`leaving`).
-    #[tactic(auto, using(crate::proofs::PointLemmas::byte_is_placed, crate::proofs::PasteLemmas::only_pasted, crate::proofs::PasteLemmas::leaving_heard))]
+    #[tactic(auto, using(crate::proofs::SentLemmas::byte_is_sent, crate::proofs::PasteLemmas::only_pasted, crate::proofs::PasteLemmas::leaving_heard))]
     pub fn take(&mut self, byte: u8) -> Option<Action>
         ensures heard { result ≡ heard self.old byte }
         ensures kept { self.new ≡ left_by self.old byte }
-        ensures placed { IfSome result IsPlacedAction }
+        ensures sent { IfSome result IsSentAction }
         ensures pasted { self.old.is_pasting ≡ true → IfSome result (λ action. is_pasted action ≡ true) }
         ensures leaving { HearsLeaving self.old.is_pasting byte result }
     {
@@ -116,7 +116,7 @@ impl Decoder {
     pub fn pause(&mut self) -> Option<Action>
         ensures heard { result ≡ heard_at_pause self.old }
         ensures kept { self.new ≡ between self.old.is_pasting }
-        ensures placed { IfSome result IsPlacedAction }
+        ensures sent { IfSome result IsSentAction }
     {
         let meant = at_pause(self.bytes.as_slice());
         let heard = heard_while(self.is_pasting, meant);

@@ -6,7 +6,7 @@ use super::ending::{Ending, expect, expect_whole, refused};
 use std::alloc::Global;
 use std::test::Fail;
 use tv_io::{FileReader, ReadFault, read_text};
-use tv_play::{Parting, Piece, Pieces};
+use tv_play::{NoTape, Outputs, Parting, Piece, Pieces};
 use tv_program::{RunFault, Trouble, accept_files, check, play, run};
 use tv_terminal::Colours;
 use tv_test_support::Memory;
@@ -106,15 +106,14 @@ fn play_into(
     screen: &mut Memory,
     log: &mut Memory,
 ) -> Result<Parting, RunFault> {
-    play(
-        alloc,
-        CANCEL.as_bytes(),
-        letter,
-        &buttons,
+    let mut tape = NoTape;
+    let mut outputs = Outputs {
         screen,
+        colours: Colours::Sixteen,
         log,
-        Colours::Sixteen,
-    )
+        tape: &mut tape,
+    };
+    play(alloc, CANCEL.as_bytes(), letter, &buttons, &mut outputs)
 }
 
 // Where memory was refused nothing was read or written, and a second call plays the dialog to its end.

@@ -1,6 +1,6 @@
 //! Writers that fail.
 
-use super::runs::{ROOM, Ran, played, played_with};
+use super::runs::{AMPLE, Ran, Rooms, played, played_with};
 use super::sent::Sent;
 use std::alloc::Global;
 use std::test::Fail;
@@ -8,16 +8,16 @@ use tv_play::PlayFault;
 use tv_test_support::descriptions::CANCEL;
 
 // Plays a dialog to its end into writers that fail after so many bytes.
-fn cut(alloc: Global, log_room: usize, screen_room: usize) -> Result<Ran, Fail> {
+fn cut(alloc: Global, rooms: Rooms) -> Result<Ran, Fail> {
     let texts: [&[u8]; 2] = [b"\t", b"c"];
-    played_with(alloc, CANCEL, &mut Sent::new(&texts), log_room, screen_room)
+    played_with(alloc, CANCEL, &mut Sent::new(&texts), rooms)
 }
 
 #[test]
 fn log_that_fails_after_each_byte(rt: HostRuntime) -> Result<(), Fail> {
-    let whole = cut(rt.alloc(), ROOM, ROOM)?;
+    let whole = cut(rt.alloc(), AMPLE)?;
     for room in 0..whole.log.taken().len() {
-        let cut = cut(rt.alloc(), room, ROOM)?;
+        let cut = cut(rt.alloc(), Rooms { log: room, ..AMPLE })?;
         assert_eq!(rt; cut.outcome, Err(PlayFault::Log), "after {room}");
         assert!(rt;
             whole.log.taken().get(..room) == Some(cut.log.taken()),
@@ -34,14 +34,45 @@ fn log_that_fails_after_each_byte(rt: HostRuntime) -> Result<(), Fail> {
 
 #[test]
 fn screen_that_fails_after_each_byte(rt: HostRuntime) -> Result<(), Fail> {
-    let whole = cut(rt.alloc(), ROOM, ROOM)?;
+    let whole = cut(rt.alloc(), AMPLE)?;
     for room in 0..whole.screen.taken().len() {
-        let cut = cut(rt.alloc(), ROOM, room)?;
+        let cut = cut(
+            rt.alloc(),
+            Rooms {
+                screen: room,
+                ..AMPLE
+            },
+        )?;
         assert_eq!(rt; cut.outcome, Err(PlayFault::Screen), "after {room}");
         assert!(rt;
             whole.screen.taken().get(..room) == Some(cut.screen.taken()),
             "after {room}"
         );
+        assert!(rt;
+            whole.log.taken().starts_with(cut.log.taken()),
+            "after {room}"
+        );
+    }
+    Ok(())
+}
+
+#[test]
+fn tape_that_fails_after_each_byte(rt: HostRuntime) -> Result<(), Fail> {
+    let whole = cut(rt.alloc(), AMPLE)?;
+    for room in 0..whole.tape.taken().len() {
+        let cut = cut(
+            rt.alloc(),
+            Rooms {
+                tape: room,
+                ..AMPLE
+            },
+        )?;
+        assert_eq!(rt; cut.outcome, Err(PlayFault::Tape), "after {room}");
+        assert!(rt;
+            whole.tape.taken().get(..room) == Some(cut.tape.taken()),
+            "after {room}"
+        );
+        // The event whose line is cut was performed.
         assert!(rt;
             whole.log.taken().starts_with(cut.log.taken()),
             "after {room}"

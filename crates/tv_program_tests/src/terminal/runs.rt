@@ -5,7 +5,7 @@ use std::alloc::Global;
 use std::test::Fail;
 use tv_check::Checked;
 use tv_io::FileReader;
-use tv_play::{Parting, PlayFault, play};
+use tv_play::{Outputs, Parting, PlayFault, play};
 use tv_program::{read_checked, run};
 use tv_session::{SessionOf, Views};
 use tv_terminal::Colours;
@@ -22,12 +22,11 @@ fn play_over<V: View>(
     checked: Checked,
     views: Views<V>,
     sent: &mut Sent<'_>,
-    screen: &mut Memory,
-    log: &mut Memory,
+    outputs: &mut Outputs<Memory, Memory, Memory>,
 ) -> Option<Outcome> {
     let Views { windows, bodies } = views;
     match SessionOf::new(alloc, checked, windows, bodies) {
-        Ok(mut session) => Some(play(alloc, &mut session, sent, screen, log, Colours::Sixteen)),
+        Ok(mut session) => Some(play(alloc, &mut session, sent, outputs)),
         Err(_) => None,
     }
 }
@@ -37,8 +36,7 @@ fn play_into(
     alloc: Global,
     desc: &str,
     sent: &mut Sent<'_>,
-    screen: &mut Memory,
-    log: &mut Memory,
+    outputs: &mut Outputs<Memory, Memory, Memory>,
 ) -> Result<Outcome, Fail> {
     let Ok(checked) = read_checked(alloc, desc.as_bytes()) else {
         return Err("no sound description".into());
@@ -46,7 +44,7 @@ fn play_into(
     let Ok(views) = buttons(alloc, &checked) else {
         return Err("no buttons".into());
     };
-    match play_over(alloc, checked, views, sent, screen, log) {
+    match play_over(alloc, checked, views, sent, outputs) {
         Some(outcome) => Ok(outcome),
         None => Err("no session".into()),
     }
@@ -58,14 +56,30 @@ pub struct Ran {
     pub outcome: Outcome,
     pub log: Memory,
     pub screen: Memory,
+    pub tape: Memory,
+}
+
+/// How many bytes each writer takes before it fails.
+#[derive(Clone, Copy)]
+pub struct Rooms {
+    pub log: usize,
+    pub screen: usize,
+    pub tape: usize,
 }
 
 /// More than any of these runs writes.
 pub const ROOM: usize = 16_384;
 
+/// Room for all that a run writes.
+pub const AMPLE: Rooms = Rooms {
+    log: ROOM,
+    screen: ROOM,
+    tape: ROOM,
+};
+
 /// Plays a description whose controls are buttons.
 pub fn played(alloc: Global, desc: &str, sent: &mut Sent<'_>) -> Result<Ran, Fail> {
-    played_with(alloc, desc, sent, ROOM, ROOM)
+    played_with(alloc, desc, sent, AMPLE)
 }
 
 /// Plays it into writers that fail after so many bytes.
@@ -73,16 +87,23 @@ pub fn played_with(
     alloc: Global,
     desc: &str,
     sent: &mut Sent<'_>,
-    log_room: usize,
-    screen_room: usize,
+    rooms: Rooms,
 ) -> Result<Ran, Fail> {
-    let mut log = Memory::new(alloc, log_room, ROOM)?;
-    let mut screen = Memory::new(alloc, screen_room, ROOM)?;
-    let outcome = play_into(alloc, desc, sent, &mut screen, &mut log)?;
+    let mut log = Memory::new(alloc, rooms.log, ROOM)?;
+    let mut screen = Memory::new(alloc, rooms.screen, ROOM)?;
+    let mut tape = Memory::new(alloc, rooms.tape, ROOM)?;
+    let mut outputs = Outputs {
+        screen: &mut screen,
+        colours: Colours::Sixteen,
+        log: &mut log,
+        tape: &mut tape,
+    };
+    let outcome = play_into(alloc, desc, sent, &mut outputs)?;
     Ok(Ran {
         outcome,
         log,
         screen,
+        tape,
     })
 }
 
@@ -111,6 +132,15 @@ pub fn expect_ran(ran: &Ran, outcome: Outcome, log: &[u8]) -> Result<(), Fail> {
         "{:?} after:\n{found}wanted: {outcome:?} after:\n{wanted}",
         ran.outcome
     )))
+}
+
+/// Fails where something else was recorded.
+pub fn expect_taped(ran: &Ran, script: &str) -> Result<(), Fail> {
+    if ran.tape.taken() == script.as_bytes() {
+        return Ok(());
+    }
+    let found = str::from_utf8(ran.tape.taken())?;
+    Err(Fail::new(format_args!("recorded:\n{found}wanted:\n{script}")))
 }
 
 /// Fails where the two didn't end in the same way, log the same and write the same for the terminal.

@@ -1,6 +1,6 @@
 //! Sessions by keys and by the mouse, and what ends them.
 
-use super::runs::{expect_ran, expect_same, logged, played};
+use super::runs::{expect_ran, expect_same, expect_taped, logged, played};
 use super::sent::Sent;
 use std::alloc::Global;
 use std::test::Fail;
@@ -85,7 +85,15 @@ const KEYS: [Row; 7] = [
     },
 ];
 
-const MOUSE: [Row; 3] = [
+const MOUSE: [Row; 4] = [
+    // Off the screen.
+    Row {
+        desc: DESK,
+        sent: b"\x1b[<0;14;4M\x1b[<32;41;21M\x1b[<0;99;99m\x1b[<0;30;5M\x1b[<0;30;5m",
+        script: "down 13 3\nmove 23 9\nup 23 9\ndown 0 0\nup 23 4\n",
+        log: "moved two 18 8\n",
+        parting: Parting::Ended,
+    },
     Row {
         desc: CANCEL,
         sent: b"\x1b[<0;8;4M\x1b[<0;8;4m",
@@ -109,10 +117,11 @@ const MOUSE: [Row; 3] = [
     },
 ];
 
-// Fails where the log isn't that of the row, or that of the program's run of its script.
+// Fails where the log isn't that of the row, or that of the program's run of its script, or another script was recorded.
 fn expect_row(alloc: Global, row: &Row) -> Result<(), Fail> {
     let ran = played(alloc, row.desc, &mut Sent::new(&[row.sent]))?;
     expect_ran(&ran, Ok(row.parting), row.log.as_bytes())?;
+    expect_taped(&ran, row.script)?;
     let logged = logged(alloc, row.desc, row.script)?;
     expect_ran(&ran, Ok(row.parting), logged.taken())
 }
@@ -291,6 +300,7 @@ fn partings(rt: HostRuntime) -> Result<(), Fail> {
         let mut sent = Sent::new(row.sent);
         let ran = played(rt.alloc(), row.desc, &mut sent)?;
         expect_ran(&ran, Ok(row.parting), row.log.as_bytes())?;
+        expect_taped(&ran, row.script)?;
         assert_eq!(rt; sent.reads, row.reads);
     }
     Ok(())

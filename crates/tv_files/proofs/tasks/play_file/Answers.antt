@@ -1,8 +1,8 @@
-use Rattle.std.proofs.Common.{Ok, Err, refl}
+use Rattle.std.proofs.Common.{Ok, Err, ap, refl, rules}
 use Rattle.tv_program.specs.Playing.{IsMismade, Makes}
 use Rattle.tv_files.specs.Tasks.PlaysFile.{played}
 use Rattle.tv_files.specs.World.{known_world, ports_of}
-use Rattle.tv_files.proofs.TaskLemmas.{unread-PlaysFile}
+use Rattle.tv_files.proofs.TaskLemmas.{PlaysText-lent, unread-PlaysFile}
 use Rattle.tv_files.proofs.tasks.play_file.Goals as goal
 
 pub returns-in_err-text : goal.returns-in_err-text
@@ -14,18 +14,25 @@ returns-in_err-text g c = (
 )
 
 pub returns-in-Ok : goal.returns-in-Ok
-returns-in-Ok g c = (
-  refl,
-  played c.in_ok-text.text.items c.in_ok-text.ensures (Ok c.in-Ok.parting, rw c.as_slice.ensures.value at c.in-Ok.ensures.output, c.from.ensures, refl),
-)
+returns-in-Ok g c =
+    let same = c.play.ensures.same in (
+      refl,
+      played c.in_ok-text.text.items c.in_ok-text.ensures (
+        Ok c.in-Ok.parting,
+        PlaysText-lent _ _ _ _ _ _ _ _ _ _ _ (ap g.W.Writer.seen (search (rules, same.log))) (ap g.T.Writer.seen (search (rules, same.screen))) refl (rw c.as_slice.ensures.value at c.in-Ok.ensures.output),
+        c.from.ensures,
+        refl,
+      ),
+    )
 
 pub returns : goal.returns
-returns g c = (
-  refl,
-  played c.in_ok-text.text.items c.in_ok-text.ensures (
-    Err c.in-Err.fault,
-    rw c.as_slice.ensures.value at c.in-Err.ensures.output,
-    refl,
-    c.of_run.ensures,
-  ),
-)
+returns g c =
+    let same = c.play.ensures.same in (
+      refl,
+      played c.in_ok-text.text.items c.in_ok-text.ensures (
+        Err c.in-Err.fault,
+        PlaysText-lent _ _ _ _ _ _ _ _ _ _ _ (ap g.W.Writer.seen (search (rules, same.log))) (ap g.T.Writer.seen (search (rules, same.screen))) refl (rw c.as_slice.ensures.value at c.in-Err.ensures.output),
+        refl,
+        c.of_run.ensures,
+      ),
+    )

@@ -13,6 +13,6 @@ invariant-loop-turn g l = record {
   symbols : List Symbol;
   many : l.turn ≤ length symbols;
   came : HasCome (g.P.Pieces.heard l.fn.pieces) (g.P.Pieces.heard l.pieces) symbols;
-  plays : (s : Session) (from : Outside) → HasPlayed g.L.Stage.stands g.T.Writer.seen g.W.Writer.seen s [] from l.fn.self
-      → HasPlayed g.L.Stage.stands g.T.Writer.seen g.W.Writer.seen s symbols from l.self;
+  plays : (s : Session) (from : Outside) → HasPlayed g.L.Stage.stands g.T.Writer.seen g.W.Writer.seen g.R.Writer.seen s [] from l.fn.self
+      → HasPlayed g.L.Stage.stands g.T.Writer.seen g.W.Writer.seen g.R.Writer.seen s symbols from l.self;
 }

@@ -5,18 +5,18 @@ use Rattle.tv_play.proofs.player.Player.play_through.Goals as goal
 pub returns-in-Ok-clause-same : goal.returns-in-Ok-clause-same
 returns-in-Ok-clause-same g c =
     let same = c.play_begun-outcome.ensures.same in
-    record { stage = same.stage; screen = c.end.ensures.same ∙ same.screen; log = same.log }
+    record { stage = same.stage; screen = c.end.ensures.same ∙ same.screen; log = same.log; tape = c.pass_on.ensures.puts.same ∙ same.tape }
 
 pub returns-in-Ok-clause-plays : goal.returns-in-Ok-clause-plays
 returns-in-Ok-clause-plays g c = λ s stands.
     plays-parted s (g.P.Pieces.heard c.args.pieces.now) (g.P.Pieces.heard c.play_begun-outcome.new.pieces) _ _ _ c.end.new.pen.stopped (g.L.Stage.stands c.play_begun-outcome.new.self.stage.now)
-    (c.end.ensures.put (g.T.Writer.seen c.args.self.now.pen.out.now)) c.end.ensures.stopped c.end.ensures.passed _ c.in-Ok.parting c.pass_on-passed.result c.told_with.result c.told_with.ensures
-    (c.in-Ok.ensures.runs s stands) c.pass_on-passed.ensures
+    (c.end.ensures.put (g.T.Writer.seen c.args.self.now.pen.out.now)) c.end.ensures.stopped c.end.ensures.passed _ _ _ c.in-Ok.parting c.pass_on-passed.result c.told_with.result c.told_with.ensures
+    (c.in-Ok.ensures.runs s stands) c.pass_on-passed.ensures c.pass_on.ensures.puts.how c.pass_on.ensures.none
 
 pub returns-in-Err-clause-same : goal.returns-in-Err-clause-same
 returns-in-Err-clause-same g c =
     let same = c.play_begun-outcome.ensures.same in
-    record { stage = same.stage; screen = c.end.ensures.same ∙ same.screen; log = same.log }
+    record { stage = same.stage; screen = c.end.ensures.same ∙ same.screen; log = same.log; tape = same.tape }
 
 pub returns-in-Err-clause-plays : goal.returns-in-Err-clause-plays
 returns-in-Err-clause-plays g c = λ s stands.

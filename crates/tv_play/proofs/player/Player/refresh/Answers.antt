@@ -1,4 +1,4 @@
-use Rattle.std.proofs.Common.{subst}
+use Rattle.std.proofs.Common.{refl, subst}
 use Rattle.tv_machine.specs.Run.{quiet}
 use Rattle.tv_model.specs.declared.desc.Desc.{Desc}
 use Rattle.tv_play.specs.Ends.{IsTakenFor, reached}
@@ -16,6 +16,6 @@ returns-clause-acts g c = λ s symbols next from playing read means.
     record {
       turns = turns-told s next from _ _ c.outcome_of.ensures
           (refreshes s symbols next from _ _ playing action taken means (g.T.Writer.seen c.show_all.new.pen.out.now) c.show_all.new.painter
-          c.show_all.new.pen.stopped (c.show_all.ensures.again from.painter.colours s playing.actions action from.screen stands taken.1 playing.shown));
+          c.show_all.new.pen.stopped (c.show_all.ensures.again from.painter.colours s playing.actions action from.screen stands taken.1 playing.shown) c.args.self.now.tape.stopped refl);
       read = λ none. read;
     }

@@ -3,7 +3,7 @@ use Rattle.tv_play.proofs.HeardLemmas.{meant-none, meant-some, playing-still}
 use Rattle.tv_play.proofs.player.Player.take_meant.Goals as goal
 
 pub returns-in_default-clause-kept : goal.returns-in_default-clause-kept
-returns-in_default-clause-kept g c = record { same = record { stage = refl; screen = refl; log = refl }; staged = c.requires.ready.staged; going = λ none. c.requires.ready.going }
+returns-in_default-clause-kept g c = record { same = record { stage = refl; screen = refl; log = refl; tape = refl }; staged = c.requires.ready.staged; going = λ none. c.requires.ready.going; whole = λ none. c.requires.ready.whole }
 
 pub returns-in_default-clause-acts : goal.returns-in_default-clause-acts
 returns-in_default-clause-acts g c = λ s symbols next from playing read means. record {

@@ -6,12 +6,12 @@ use Rattle.tv_terminal.specs.Decoding.{Pause}
 pub take_meant-requires-clause-ready : goal.take_meant-requires-clause-ready
 take_meant-requires-clause-ready g c =
     let ready = c.requires.ready in
-    record { staged = record { session = ready.staged.session; here = ready.staged.here; size = ready.staged.size }; going = ready.going }
+    record { staged = record { session = ready.staged.session; here = ready.staged.here; size = ready.staged.size }; going = ready.going; whole = ready.whole }
 
 pub returns-clause-kept : goal.returns-clause-kept
 returns-clause-kept g c =
     let kept = c.take_meant.ensures.kept in
-    record { same = record { stage = kept.same.stage; screen = kept.same.screen; log = kept.same.log }; staged = kept.staged; going = kept.going }
+    record { same = record { stage = kept.same.stage; screen = kept.same.screen; log = kept.same.log; tape = kept.same.tape }; staged = kept.staged; going = kept.going; whole = kept.whole }
 
 pub returns-clause-hears : goal.returns-clause-hears
 returns-clause-hears g c = λ s symbols from played.
