@@ -14,6 +14,9 @@ END = b"\x1b[0m\x1b[2J\x1b[?25h\x1b[?2004l\x1b[?1039l\x1b[?1036l\x1b[?1006l\x1b[
 NAMES = "black red green brown blue magenta cyan white".split()
 ORDER = (0, 4, 2, 6, 1, 5, 3, 7)
 NUMBERS = dict(zip(NAMES, ORDER)) | {f"bright {name}": 8 + number for name, number in zip(NAMES, ORDER)}
+# of the 256 those that stand for the sixteen
+FIXED = (16, 19, 34, 37, 124, 127, 130, 248, 240, 63, 83, 87, 203, 207, 227, 231)
+NUMBERS |= {pyte.graphics.FG_BG_256[index]: number for number, index in enumerate(FIXED)}
 
 # pyte takes a bright colour for the plain one in bold, which a plain colour doesn't turn off again
 pyte.graphics.FG_AIXTERM.update({90 + place: f"bright {name}" for place, name in enumerate(NAMES)})

@@ -22,6 +22,7 @@ use Rattle.tv_program.specs.Playing.{IsNoStart, RunsTo}
 use Rattle.tv_program.specs.Playing.RunsTo.{refused, unbegun, stopped, done as done_run}
 use Rattle.tv_program.specs.Reading.{IsSoundText}
 use Rattle.tv_program.specs.Terminal.{PlaysText}
+use Rattle.tv_terminal.specs.declared.colour.Colours.{Colours}
 use Rattle.tv_program.specs.Terminal.PlaysText.{refused as refused_play, unbegun as unbegun_play, played as played_text}
 use Rattle.tv_files.specs.declared.done.Done.{Done}
 use Rattle.tv_files.specs.declared.no_task.NoTask.{NoTask}
@@ -98,14 +99,14 @@ module _ (P Q : Desc → Type 0) (weaker : (text : List ℕ) (d : Desc) → IsSo
       (λ text reader left was. (was.0, ShotsTo-weaker text script reader left old new was.0 was.1, was.2)) files after file script old new end came
 
   -- what playing a description comes to
-  PlaysText-weaker : (text : List ℕ) (old new : Ports) (r : Result Parting RunFault) → PlaysText P text old new r → PlaysText Q text old new r
+  PlaysText-weaker : {colours : Colours} (text : List ℕ) (old new : Ports) (r : Result Parting RunFault) → PlaysText P colours text old new r → PlaysText Q colours text old new r
   PlaysText-weaker text old new r (refused_play fault is untouched told) = refused_play fault is untouched told
   PlaysText-weaker text old new r (unbegun_play d fault read why untouched told) =
       unbegun_play d fault read (IsNoStart-weaker text d fault read why) untouched told
   PlaysText-weaker text old new r (played_text d outcome read plays told) = played_text d outcome read plays told
 
   -- what playing a file comes to
-  PlaysFile-weaker : (files after : Known) (file : List ℕ) (old new : Ports) (how : Done) (end : End) → PlaysFile P files after file old new how end → PlaysFile Q files after file old new how end
+  PlaysFile-weaker : {colours : Colours} (files after : Known) (file : List ℕ) (old new : Ports) (how : Done) (end : End) → PlaysFile P colours files after file old new how end → PlaysFile Q colours files after file old new how end
   PlaysFile-weaker files after file old new how end (unread_file is same whole) = unread_file is same whole
   PlaysFile-weaker files after file old new how end (played_file text gives came) =
       played_file text gives (came.0, PlaysText-weaker text old new came.0 came.1, came.2, came.3)
@@ -150,7 +151,7 @@ module _ (P Q : Desc → Type 0) (weaker : (text : List ℕ) (d : Desc) → IsSo
   Performs-weaker (Accept file certificate) old new how end came = came
   Performs-weaker (Run file script) old new how end came =
       (came.0, came.1, RunsFiles-weaker old.files new.files file.now script.now old.out new.out end came.2)
-  Performs-weaker (Play file) old new how end came =
+  Performs-weaker (Play file colours) old new how end came =
       (came.0, PlaysFile-weaker old.files new.files file.now (ports_of old) (ports_of new) how end came.1)
   Performs-weaker (Picture file script) old new how end came =
       (came.0, came.1, PicturesFiles-weaker old.files new.files file.now script.now old.out new.out end came.2)

@@ -22,6 +22,7 @@ use Rattle.tv_files.specs.Tasks.{EndsFirst, GivesText, IsUnread, OnFiles, OnStre
 use Rattle.tv_files.specs.Tasks.OnFiles.{first, unread, done}
 use Rattle.tv_files.specs.Tasks.OnStream.{done as done_both}
 use Rattle.tv_files.specs.Tasks.PlaysFile.{unread as unread_file}
+use Rattle.tv_terminal.specs.declared.colour.Colours.{Colours}
 use Rattle.tv_files.proofs.FileLemmas.{Gives-then, IsFileOf-then, IsRead-Gives, IsUnread-then, Opens-both}
 
 module _ {S : Type 0} (limit : ℕ) (refuses : (text : List ℕ) → Trouble → Type 0) (passes : (text : List ℕ) → Type 0) (files after : Known) (file beside : List ℕ) (seen : S) (failure : Failure) where
@@ -63,14 +64,14 @@ RunsTo-gone Mismade Stands text reader left old new r (done_run d run read comes
 -- ---- in a terminal
 
 -- the description wasn't read
-pub unread-PlaysFile : (Mismade : Desc → Type 0) (files after : Known) (file : List ℕ) (ports : Ports) (failure : Failure) → IsUnread longest files after (file ∷ []) file (end_of_failure failure) → (r : Result Done Failure) → IsErrAnd r (λ told. told ≡ failure) → PlaysFile Mismade files after file ports ports (done_in r) (end_of r)
-unread-PlaysFile Mismade files after file ports failure is (Ok how) told = absurd told
-unread-PlaysFile Mismade files after file ports failure is (Err other) told = rw told (unread_file is refl refl)
+pub unread-PlaysFile : (Mismade : Desc → Type 0) (colours : Colours) (files after : Known) (file : List ℕ) (ports : Ports) (failure : Failure) → IsUnread longest files after (file ∷ []) file (end_of_failure failure) → (r : Result Done Failure) → IsErrAnd r (λ told. told ≡ failure) → PlaysFile Mismade colours files after file ports ports (done_in r) (end_of r)
+unread-PlaysFile Mismade colours files after file ports failure is (Ok how) told = absurd told
+unread-PlaysFile Mismade colours files after file ports failure is (Err other) told = rw told (unread_file is refl refl)
 
 -- what was played, as it stands once the streams are back
-pub PlaysText-lent : (Mismade : Desc → Type 0) (text : List ℕ) (old : Ports) (input : Heard) (log log' screen screen' tape tape' : Seen) (r : Result Parting RunFault) → log ≡ log' → screen ≡ screen' → tape ≡ tape' → PlaysText Mismade text old (record { input = input; log = log; screen = screen; tape = tape }) r
-    → PlaysText Mismade text old (record { input = input; log = log'; screen = screen'; tape = tape' }) r
-PlaysText-lent Mismade text old input log log' screen screen' tape tape' r same alike kept p =
-    subst (λ (x : Seen). PlaysText Mismade text old (record { input = input; log = log'; screen = screen'; tape = x }) r) kept
-    (subst (λ (x : Seen). PlaysText Mismade text old (record { input = input; log = log'; screen = x; tape = tape }) r) alike
-    (subst (λ (x : Seen). PlaysText Mismade text old (record { input = input; log = x; screen = screen; tape = tape }) r) same p))
+pub PlaysText-lent : (Mismade : Desc → Type 0) {colours : Colours} (text : List ℕ) (old : Ports) (input : Heard) (log log' screen screen' tape tape' : Seen) (r : Result Parting RunFault) → log ≡ log' → screen ≡ screen' → tape ≡ tape' → PlaysText Mismade colours text old (record { input = input; log = log; screen = screen; tape = tape }) r
+    → PlaysText Mismade colours text old (record { input = input; log = log'; screen = screen'; tape = tape' }) r
+PlaysText-lent Mismade {colours} text old input log log' screen screen' tape tape' r same alike kept p =
+    subst (λ (x : Seen). PlaysText Mismade colours text old (record { input = input; log = log'; screen = screen'; tape = x }) r) kept
+    (subst (λ (x : Seen). PlaysText Mismade colours text old (record { input = input; log = log'; screen = x; tape = tape }) r) alike
+    (subst (λ (x : Seen). PlaysText Mismade colours text old (record { input = input; log = x; screen = screen; tape = tape }) r) same p))

@@ -13,17 +13,18 @@ use Rattle.tv_files.specs.Filling.{AnswersFiles, FillsFiles}
 use Rattle.tv_files.specs.Picturing.{PicturesAll, PicturesFiles}
 use Rattle.tv_files.specs.Tasks.{AcceptsFiles, ChecksFile, PlaysFile, RunsFiles, TellsVersion}
 use Rattle.tv_files.specs.World.{KnownWorld, ports_of, written_of}
+use Rattle.tv_terminal.specs.declared.colour.Colours.{Colours}
 
 -- nothing is heard, no screen is shown, and no picture is drawn
 abbrev pub IsQuiet : (old new : KnownWorld) → Type 0
 IsQuiet old new = new ≡ record old { files = new.files; out = new.out }
 
 -- a description is played, and no picture is drawn
-abbrev pub PlaysIn : (Mismade : Desc → Type 0) → (file : List ℕ) → (old new : KnownWorld) → Done → End
-    → Type 0
-PlaysIn Mismade file old new how end =
+abbrev pub PlaysIn : (Mismade : Desc → Type 0) → Colours → (file : List ℕ) → (old new : KnownWorld) → Done
+    → End → Type 0
+PlaysIn Mismade colours file old new how end =
     (new.album ≡ old.album)
-    × PlaysFile Mismade old.files new.files file (ports_of old) (ports_of new) how end
+    × PlaysFile Mismade colours old.files new.files file (ports_of old) (ports_of new) how end
 
 -- both streams are written, nothing is heard, and no picture is drawn
 abbrev pub IsUnplayed : (old new : KnownWorld) → Type 0
@@ -39,7 +40,7 @@ PerformsTask Mismade (Accept file certificate) old new how end =
 PerformsTask Mismade (Run file script) old new how end =
     IsQuiet old new × (how ≡ Whole)
     × RunsFiles Mismade old.files new.files file.now script.now old.out new.out end
-PerformsTask Mismade (Play file) old new how end = PlaysIn Mismade file.now old new how end
+PerformsTask Mismade (Play file colours) old new how end = PlaysIn Mismade colours file.now old new how end
 PerformsTask Mismade (Picture file script) old new how end =
     IsQuiet old new × (how ≡ Whole)
     × PicturesFiles Mismade old.files new.files file.now script.now old.out new.out end

@@ -17,6 +17,7 @@ use Rattle.tv_program.specs.CheckRun.{AcceptsTo, ChecksTo}
 use Rattle.tv_program.specs.Conversions.{accept_told, check_told, lang_told}
 use Rattle.tv_program.specs.Playing.{RunsTo}
 use Rattle.tv_program.specs.Terminal.{PlaysText}
+use Rattle.tv_terminal.specs.declared.colour.Colours.{Colours}
 use Rattle.tv_files.specs.declared.done.Done.{Done}
 use Rattle.tv_files.specs.declared.done.Done.TheVariants.{Whole}
 use Rattle.tv_files.specs.Ends.{End, done_of_play, end_as, end_of_run}
@@ -164,21 +165,21 @@ abbrev pub terminal : List ℕ
 terminal = codes "standard input"
 
 -- what `play` answers about the text, told as an end
-abbrev pub PlaysAs : (Mismade : Desc → Type 0) → (file : List ℕ) → (old new : Ports) → Done → End
+abbrev pub PlaysAs : (Mismade : Desc → Type 0) → Colours → (file : List ℕ) → (old new : Ports) → Done → End
     → (text : List ℕ) → Type 0
-PlaysAs Mismade file old new how end text =
-    (r : Result Parting RunFault) × PlaysText Mismade text old new r
+PlaysAs Mismade colours file old new how end text =
+    (r : Result Parting RunFault) × PlaysText Mismade colours text old new r
     × (how ≡ done_of_play r) × (end ≡ end_of_run file terminal r)
 
 -- The description is read before the terminal is touched
-pub data PlaysFile (Mismade : Desc → Type 0) (files after : Known) (file : List ℕ) (old new : Ports)
-    (how : Done)
+pub data PlaysFile (Mismade : Desc → Type 0) (colours : Colours) (files after : Known) (file : List ℕ)
+    (old new : Ports) (how : Done)
     (end : End) : Type 0 where
   unread : IsUnread longest files after (file ∷ []) file end → new ≡ old → how ≡ Whole
-      → PlaysFile Mismade files after file old new how end
+      → PlaysFile Mismade colours files after file old new how end
   played : (text : List ℕ) → GivesText longest files after (file ∷ []) file text
-      → PlaysAs Mismade file old new how end text
-      → PlaysFile Mismade files after file old new how end
+      → PlaysAs Mismade colours file old new how end text
+      → PlaysFile Mismade colours files after file old new how end
 
 -- ---- the version
 

@@ -42,4 +42,5 @@ pub use timed_read::{Reading, TimedRead, TimedReader};
 pub use tv_advice::Manner;
 pub use tv_io::ReadFault;
 pub use tv_program::{Album, AlbumFault};
+pub use tv_terminal::Colours;
 pub use world::World;

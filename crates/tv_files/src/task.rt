@@ -1,6 +1,7 @@
 //! What the program can be asked for.
 
 use tv_advice::Manner;
+use tv_terminal::Colours;
 
 /// What the command line asks for. Paths are taken as they stand.
 #[derive(Clone, Copy, Debug, PartialEq, Eq)]
@@ -19,9 +20,10 @@ pub enum Task<'a> {
         file: &'a str,
         script: &'a str,
     },
-    /// A description, played in a terminal.
+    /// A description, played in a terminal, and in which colours it shows the screen.
     Play {
         file: &'a str,
+        colours: Colours,
     },
     /// The screen that a script leaves of a description, as SVG.
     Picture {

@@ -27,6 +27,7 @@ use tv_model::Desc;
 use tv_play::{NoTape, Outputs, Pieces};
 use tv_program::{Album, Trouble, accept_text, check, play, run};
 use tv_session::{BuildFault, Views};
+use tv_terminal::Colours;
 use tv_view::View;
 
 /// The most bytes of a description, a certificate, or a text that is explained beside a description.
@@ -72,7 +73,7 @@ pub fn perform<
             let paths = Scripted { file, script };
             whole(run_file(&mut world.files, alloc, paths, views, &mut world.out))
         }
-        Task::Play { file } => play_file(alloc, file, views, world),
+        Task::Play { file, colours } => play_file(alloc, file, colours, views, world),
         Task::Picture { file, script } => {
             let paths = Scripted { file, script };
             whole(picture_file(&mut world.files, alloc, paths, views, &mut world.out))
@@ -195,7 +196,7 @@ pub fn run_file<
 }
 
 /// Plays a file's description in a terminal, through the views that `views` makes of it: hears the world's `pieces`, shows what
-/// they leave on its `err`, and writes the log to its `out`. No picture is drawn.
+/// they leave on its `err`, in `colours`, and writes the log to its `out`. No picture is drawn.
 ///
 /// The terminal isn't touched before the description has passed and its views are made.
 pub fn play_file<
@@ -210,19 +211,20 @@ pub fn play_file<
 >(
     alloc: Global,
     file: &'a str,
+    colours: Colours,
     views: &M,
     world: &mut World<F, A, P, W, T>,
 ) -> Result<Done, Failure<'a>>
     requires { M.IsAlwaysCallable views.now }
     ensures { let known = known_world F.known A.hung P.heard W.seen T.seen in
-        PlaysIn (IsMismade (Makes M.Fn views.now) V.meaning) file.now (known world.old)
+        PlaysIn (IsMismade (Makes M.Fn views.now) V.meaning) colours file.now (known world.old)
         (known world.new) (done_in result) (end_of result) }
 {
     let text = read_file(&mut world.files, alloc, file)?;
     let mut tape = NoTape;
     let mut outputs = Outputs {
         screen: &mut world.err,
-        colours: Colours::Sixteen,
+        colours,
         log: &mut world.out,
         tape: &mut tape,
     };

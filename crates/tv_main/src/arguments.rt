@@ -3,7 +3,7 @@
 use clap::error::ErrorKind;
 use clap::{Arg, ArgAction, ArgMatches, Command, Error};
 use std::alloc::{AllocError, Global};
-use tv_files::{Manner, NoTask, Task};
+use tv_files::{Colours, Manner, NoTask, Task};
 
 /// What the program is at.
 const VERSION: &str = "1.0.0";
@@ -178,12 +178,21 @@ fn run<'a>(alloc: Global) -> Result<Command<'a>, AllocError> {
 }
 
 fn play<'a>(alloc: Global) -> Result<Command<'a>, AllocError> {
-    Ok(subcommand(
+    subcommand(
         alloc,
         "play",
         "Plays a description in a terminal, and prints what happens",
     )?
-    .long_about(TERMINALS))
+    .long_about(TERMINALS)
+    .arg(
+        Arg::new(alloc, "colors")
+            .long("colors")
+            .value_name("NUMBER")
+            .value_parser(["16", "256"].as_slice())
+            .default_value("16")
+            .action(ArgAction::Set)
+            .help("How many colours the terminal has"),
+    )
 }
 
 fn picture<'a>(alloc: Global) -> Result<Command<'a>, AllocError> {
@@ -353,7 +362,10 @@ fn named_task<'a>(name: &str, found: &ArgMatches<'a>) -> Option<Task<'a>> {
             file,
             script: found.get_str("SCRIPT")?,
         }),
-        "play" => Some(Task::Play { file }),
+        "play" => Some(Task::Play {
+            file,
+            colours: colours(found),
+        }),
         "picture" => Some(drawing(file, found.get_str("SCRIPT")?, found)),
         "fill" => Some(Task::Fill {
             file,
@@ -385,6 +397,13 @@ fn explanation<'a>(file: &'a str, found: &ArgMatches<'a>) -> Task<'a> {
             manner,
         },
         None => Task::Explain { file, manner },
+    }
+}
+
+fn colours(found: &ArgMatches<'_>) -> Colours {
+    match found.get_str("colors") {
+        Some("256") => Colours::Indexed,
+        _ => Colours::Sixteen,
     }
 }
 

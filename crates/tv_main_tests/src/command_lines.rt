@@ -42,7 +42,7 @@ fn task_told(alloc: Global, task: Task<'_>) -> Result<String, AllocError> {
             "accepts {file} with {certificate}\n"
         ),
         Task::Run { file, script } => format!(in alloc; "runs {script} on {file}\n"),
-        Task::Play { file } => format!(in alloc; "plays {file}\n"),
+        Task::Play { file, colours } => format!(in alloc; "plays {file}: {colours:?}\n"),
         Task::Picture { file, script } => format!(in alloc; "draws {file} after {script}\n"),
         Task::PictureAll { file, script } => format!(in alloc; "draws {file} all along {script}\n"),
         Task::Fill { file, answers } => format!(in alloc; "fills {file} with {answers}\n"),
@@ -75,7 +75,11 @@ tvdlg accept a.tvd a.cert
 tvdlg run a.tvd a.tvs
 => runs a.tvs on a.tvd
 tvdlg play a.tvd
-=> plays a.tvd
+=> plays a.tvd: Sixteen
+tvdlg play --colors 256 a.tvd
+=> plays a.tvd: Indexed
+tvdlg play a.tvd --colors=16
+=> plays a.tvd: Sixteen
 tvdlg picture a.tvd a.tvs
 => draws a.tvd after a.tvs
 tvdlg picture a.tvd a.tvs --all

@@ -6,7 +6,7 @@ use crate::sink::Sink;
 use crate::user::User;
 use std::alloc::{AllocError, Global};
 use std::test::Fail;
-use tv_files::{BufferedStream, NoTask, Stream, Task, World, run_program};
+use tv_files::{BufferedStream, Colours, NoTask, Stream, Task, World, run_program};
 use tv_test_support::button_views::buttons;
 use tv_test_support::certificates::CANCEL_CERTIFICATE;
 use tv_test_support::descriptions::{CANCEL, ORDER, SHARED_LETTER, WITHOUT_CANCEL};
@@ -37,7 +37,10 @@ pub const PICTURE_ALL: Task<'static> = Task::PictureAll {
 };
 
 /// A description that is played.
-pub const PLAY: Task<'static> = Task::Play { file: FILE };
+pub const PLAY: Task<'static> = Task::Play {
+    file: FILE,
+    colours: Colours::Sixteen,
+};
 
 /// A stream: how many bytes it has room for, and whether it can be flushed.
 pub type Room = (usize, bool);
@@ -277,7 +280,10 @@ const MISSING: [(Task<'static>, &str, &str); 11] = [
         "tvdlg: no memory\nstatus 3\nopened 4\n",
     ),
     (
-        Task::Play { file: "FULL" },
+        Task::Play {
+            file: "FULL",
+            colours: Colours::Sixteen,
+        },
         CANCEL,
         "tvdlg: no memory\nstatus 3\nopened 4\n",
     ),
@@ -303,7 +309,10 @@ const MISSING: [(Task<'static>, &str, &str); 11] = [
         "tvdlg: cannot read NONE\nstatus 3\nopened 3\n",
     ),
     (
-        Task::Play { file: "NONE" },
+        Task::Play {
+            file: "NONE",
+            colours: Colours::Sixteen,
+        },
         CANCEL,
         "tvdlg: cannot read NONE\nstatus 3\nopened 3\n",
     ),

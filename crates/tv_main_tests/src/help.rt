@@ -122,13 +122,19 @@ and sets it back. It ends after the command quit, where nothing is open and
 nothing can be opened, at Ctrl-\\ always, at Ctrl-C where no status item has that
 key, and at the end of standard input.
 
-Usage: tvdlg play <FILE>
+Usage: tvdlg play [OPTIONS] <FILE>
 
 Arguments:
   <FILE>
           A description of windows and dialogs
 
 Options:
+      --colors <NUMBER>
+          How many colours the terminal has
+          
+          [default: 16]
+          [possible values: 16, 256]
+
   -h, --help
           Print help (see a summary with '-h')
 

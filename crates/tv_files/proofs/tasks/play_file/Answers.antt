@@ -8,7 +8,7 @@ use Rattle.tv_files.proofs.tasks.play_file.Goals as goal
 pub returns-in_err-text : goal.returns-in_err-text
 returns-in_err-text g c = (
   refl,
-  unread-PlaysFile (IsMismade (Makes g.M.Fn c.args.views.now) g.V.View.meaning) (g.F.FileStore.known c.args.world.now.files) (g.F.FileStore.known c.read_file.new.files) c.args.file.now
+  unread-PlaysFile (IsMismade (Makes g.M.Fn c.args.views.now) g.V.View.meaning) c.args.colours (g.F.FileStore.known c.args.world.now.files) (g.F.FileStore.known c.read_file.new.files) c.args.file.now
       (ports_of (known_world g.F.FileStore.known g.A.Album.hung g.P.Pieces.heard g.W.Writer.seen g.T.Writer.seen c.args.world.now))
       c.in_err-text.field-0.0 c.in_err-text.ensures c.from_residual.result c.from_residual.ensures.1,
 )
