@@ -31,3 +31,5 @@ mod Cases
 mod Drags
 -- and of shared letters
 mod Shares
+-- what a user did, as a script
+mod Tapes

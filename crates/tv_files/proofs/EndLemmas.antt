@@ -27,13 +27,15 @@ use Rattle.tv_program.specs.Terminal.PlaysText.{refused as refused_play, unbegun
 use Rattle.tv_files.specs.declared.done.Done.{Done}
 use Rattle.tv_files.specs.declared.no_task.NoTask.{NoTask}
 use Rattle.tv_files.specs.declared.task.Task.{Task}
-use Rattle.tv_files.specs.declared.task.Task.TheVariants.{Check, Accept, Run, Play, Picture, PictureAll, Fill, Answer, Box, Explain, ExplainBoth, Version}
+use Rattle.tv_files.specs.declared.task.Task.TheVariants.{Check, Accept, Run, Play, Record, Picture, PictureAll, Fill, Answer, Box, Explain, ExplainBoth, Version}
 use Rattle.tv_files.specs.Ends.{End}
 use Rattle.tv_files.specs.EndsWith.{EndsWith}
 use Rattle.tv_files.specs.Files.{Known}
 use Rattle.tv_files.specs.Performing.{PerformsTask}
 use Rattle.tv_files.specs.Picturing.{PicturesAll, PicturesAs, PicturesFiles, ShotsAs}
 use Rattle.tv_files.specs.Filling.{AnswersFiles}
+use Rattle.tv_files.specs.Recording.{RecordsFile, with_tape}
+use Rattle.tv_files.specs.Recording.RecordsFile.{unread as unread_record, refused as refused_record, unmade as unmade_record, played as played_record}
 use Rattle.tv_files.specs.Tasks.{OnStream, PlaysFile, RunsAs, RunsFiles}
 use Rattle.tv_files.specs.Tasks.OnFiles.{first as first_file, unread as unread_beside, done as done_beside}
 use Rattle.tv_files.specs.Tasks.OnStream.{unopened, beside, unread, done}
@@ -111,6 +113,13 @@ module _ (P Q : Desc → Type 0) (weaker : (text : List ℕ) (d : Desc) → IsSo
   PlaysFile-weaker files after file old new how end (played_file text gives came) =
       played_file text gives (came.0, PlaysText-weaker text old new came.0 came.1, came.2, came.3)
 
+  RecordsFile-weaker : {colours : Colours} (files after : Known) (file script : List ℕ) (old new : Ports) (how : Done) (end : End) → RecordsFile P colours files after file script old new how end → RecordsFile Q colours files after file script old new how end
+  RecordsFile-weaker files after file script old new how end (unread_record is same whole) = unread_record is same whole
+  RecordsFile-weaker files after file script old new how end (refused_record text fault gives refuses same whole told) = refused_record text fault gives refuses same whole told
+  RecordsFile-weaker files after file script old new how end (unmade_record text d fault gives sound same whole told) = unmade_record text d fault gives sound same whole told
+  RecordsFile-weaker files after file script old new how end (played_record text made tape r gives came same told) =
+      played_record text made tape r gives (PlaysText-weaker text (with_tape old made) (with_tape new tape) r came) same told
+
   -- why a text isn't run
   RefusesRun-weaker : (text : List ℕ) (fault : RunFault) → RefusesRun P text fault → RefusesRun Q text fault
   RefusesRun-weaker text fault (inl undescribed) = inl undescribed
@@ -153,6 +162,8 @@ module _ (P Q : Desc → Type 0) (weaker : (text : List ℕ) (d : Desc) → IsSo
       (came.0, came.1, RunsFiles-weaker old.files new.files file.now script.now old.out new.out end came.2)
   Performs-weaker (Play file colours) old new how end came =
       (came.0, PlaysFile-weaker old.files new.files file.now (ports_of old) (ports_of new) how end came.1)
+  Performs-weaker (Record file script colours) old new how end came =
+      (came.0, RecordsFile-weaker old.files new.files file.now script.now (ports_of old) (ports_of new) how end came.1)
   Performs-weaker (Picture file script) old new how end came =
       (came.0, came.1, PicturesFiles-weaker old.files new.files file.now script.now old.out new.out end came.2)
   Performs-weaker (PictureAll file script) old new how end came =

@@ -3,3 +3,4 @@ pub mod ExplainLemmas
 pub mod FileLemmas
 pub mod TaskLemmas
 pub mod TellingLemmas
+pub mod RecordLemmas

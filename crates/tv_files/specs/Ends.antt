@@ -1,5 +1,5 @@
 -- How a task ends.
-use Rattle.std.specs.Prelude.{ℕ, List, Result, Ok, Err, string_bytes}
+use Rattle.std.specs.Prelude.{ℕ, List, Result, Ok, Err, codes, string_bytes}
 use Rattle.tv_program.specs.declared.album.AlbumFault.TheVariants as albums
 use Rattle.tv_program.specs.declared.album.AlbumFault.{AlbumFault}
 use Rattle.tv_program.specs.declared.picture_fault.DrawingFault.{DrawingFault}
@@ -21,19 +21,25 @@ use Rattle.tv_files.specs.declared.failure.Failure.TheVariants as failures
 use Rattle.tv_io.specs.declared.read_fault.ReadFault.{ReadFault}
 use Rattle.tv_io.specs.declared.read_fault.ReadFault.TheVariants as unread
 
--- all was done; or there was a fault, with the path of the file that it is told of; or a picture can't be
--- written into the file of its path; or no box is made, for what the message says
+-- all was done; or there was a fault, with the path of the file that it is told of; or a picture or a tape
+-- can't be written into the file of its path; or no box is made, for what the message says
 pub data End : Type 0 where
   ended : End
   faulted : Trouble → (path : List ℕ) → End
   unwritten : (path : List ℕ) → End
   unboxed : (message : List ℕ) → End
 
+-- the end where the file of a tape can't be made
+abbrev pub end_of_tape : (script : List ℕ) → AlbumFault → End
+end_of_tape script albums.NoMemory = faulted NoMemory script
+end_of_tape script albums.Write = unwritten script
+
 -- the end that a failure tells
 abbrev pub end_of_failure : Failure → End
 end_of_failure (failures.Fault fault path) = faulted fault path.now
 end_of_failure (failures.Picture script number) = unwritten (shot_name script.now number)
 end_of_failure (failures.Box message) = unboxed (string_bytes message)
+end_of_failure (failures.Tape script) = unwritten script.now
 
 -- the end that an answer tells
 abbrev pub end_of : {T : Type 0} → Result T Failure → End
@@ -87,6 +93,11 @@ end_as told file beside (Err fault) = faulted (told fault) (path_of (told fault)
 abbrev pub end_of_run : {T : Type 0} → (file script : List ℕ) → Result T RunFault → End
 end_of_run file script (Ok _) = ended
 end_of_run file script (Err fault) = faulted (run_told fault) (path_of_run fault file script)
+
+-- the end where a run in a terminal answered this, with its tape
+abbrev pub end_of_record : {T : Type 0} → (file script : List ℕ) → Result T RunFault → End
+end_of_record file script (Err runs.Tape) = unwritten script
+end_of_record file script r = end_of_run file (codes "standard input") r
 
 -- the end where a picture of a script isn't there
 abbrev pub end_of_album : (script : List ℕ) → (number : ℕ) → AlbumFault → End

@@ -14,6 +14,8 @@ pub mod Files
 pub mod Performing
 -- What drawing the screens of a script comes to
 pub mod Picturing
+-- What a run in a terminal comes to that is recorded in a file
+pub mod Recording
 -- What a flush leaves
 pub mod Streams
 -- What a task on files comes to

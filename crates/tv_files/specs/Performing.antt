@@ -5,12 +5,13 @@ use Rattle.tv_files.specs.declared.done.Done.{Done}
 use Rattle.tv_files.specs.declared.done.Done.TheVariants.{Whole}
 use Rattle.tv_files.specs.declared.task.Task.{Task}
 use Rattle.tv_files.specs.declared.task.Task.TheVariants.{Check, Accept, Run, Play, Picture, PictureAll}
-use Rattle.tv_files.specs.declared.task.Task.TheVariants.{Fill, Answer, Box, Explain, ExplainBoth, Version}
+use Rattle.tv_files.specs.declared.task.Task.TheVariants.{Fill, Answer, Box, Explain, ExplainBoth, Record, Version}
 use Rattle.tv_files.specs.Boxes.{WritesBox}
 use Rattle.tv_files.specs.Ends.{End}
 use Rattle.tv_files.specs.Explaining.{ExplainsFile, ExplainsFiles}
 use Rattle.tv_files.specs.Filling.{AnswersFiles, FillsFiles}
 use Rattle.tv_files.specs.Picturing.{PicturesAll, PicturesFiles}
+use Rattle.tv_files.specs.Recording.{RecordsIn}
 use Rattle.tv_files.specs.Tasks.{AcceptsFiles, ChecksFile, PlaysFile, RunsFiles, TellsVersion}
 use Rattle.tv_files.specs.World.{KnownWorld, ports_of, written_of}
 use Rattle.tv_terminal.specs.declared.colour.Colours.{Colours}
@@ -41,6 +42,8 @@ PerformsTask Mismade (Run file script) old new how end =
     IsQuiet old new × (how ≡ Whole)
     × RunsFiles Mismade old.files new.files file.now script.now old.out new.out end
 PerformsTask Mismade (Play file colours) old new how end = PlaysIn Mismade colours file.now old new how end
+PerformsTask Mismade (Record file script colours) old new how end =
+    RecordsIn Mismade colours file.now script.now old new how end
 PerformsTask Mismade (Picture file script) old new how end =
     IsQuiet old new × (how ≡ Whole)
     × PicturesFiles Mismade old.files new.files file.now script.now old.out new.out end

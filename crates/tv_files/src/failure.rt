@@ -1,10 +1,11 @@
 //! Failures, each told of the file that it is in.
 
-ghost use Rattle.std.specs.Prelude.{◌≡◌};
+ghost use Rattle.std.specs.Prelude.{◌≡◌, Err};
 ghost use Rattle.tv_program.specs.Conversions.{run_told};
-ghost use Rattle.tv_files.specs.Ends.{end_of_failure, end_of_shot, file_told, path_of, path_of_run};
+ghost use Rattle.tv_files.specs.Ends.{end_of_failure, end_of_record, end_of_shot, end_of_tape, file_told, path_of, path_of_run};
 ghost use Rattle.tv_files.specs.Ends.End.{faulted};
 
+use crate::tasks::TERMINAL;
 use tv_io::ReadFault;
 use tv_program::{AlbumFault, RunFault, ShotFault, Trouble};
 
@@ -17,6 +18,8 @@ pub enum Failure<'a> {
     Picture { script: &'a str, number: usize },
     /// No box is made, for what the message says.
     Box { message: String },
+    /// What the user did can't be written into the file of this path.
+    Tape { script: &'a str },
 }
 
 impl<'a> Failure<'a> {
@@ -48,6 +51,29 @@ impl<'a> Failure<'a> {
         Failure::Fault {
             fault: Trouble::from(fault),
             path,
+        }
+    }
+
+    // Tells a fault of a run in a terminal of the text that it is in, or of the file into which it is recorded.
+    pub(crate) fn of_record(file: &'a str, script: &'a str, fault: RunFault) -> Failure<'a>
+        ensures { end_of_failure result ≡ end_of_record {T = Unit {0}} file.now script.now (Err fault) }
+    {
+        match fault {
+            RunFault::Tape => Failure::Tape { script },
+            _ => Failure::of_run(file, TERMINAL, fault),
+        }
+    }
+
+    // Tells of the file into which a run is to be recorded that it isn't there.
+    pub(crate) fn of_tape(script: &'a str, fault: AlbumFault) -> Failure<'a>
+        ensures { end_of_failure result ≡ end_of_tape script.now fault }
+    {
+        match fault {
+            AlbumFault::NoMemory => Failure::Fault {
+                fault: Trouble::NoMemory,
+                path: script,
+            },
+            AlbumFault::Write => Failure::Tape { script },
         }
     }
 

@@ -1,8 +1,11 @@
 //! Where files come from.
 
+ghost use Rattle.std.specs.Prelude.{◌≡◌};
 ghost use Rattle.tv_files.specs.Files.{Known, OpensAs};
 
-use tv_io::{ReadFault, Reader};
+use std::alloc::Global;
+use tv_io::{ReadFault, Reader, Writer};
+use tv_program::AlbumFault;
 
 /// Where files come from. Contracts see what the file of each path holds and which paths were opened, in order, where
 /// these are known.
@@ -10,9 +13,16 @@ pub trait FileStore {
     /// A file that was opened, and is read from its first byte on.
     type File: Reader + Drop;
 
+    /// A file that was made, and is written.
+    type Made: Writer + Drop;
+
     ghost known: { Self → Known };
 
     /// Opens the file of a path. Reads nothing of it.
     fn open(&mut self, path: &str) -> Result<Self::File, ReadFault>
         ensures { OpensAs Self.File.seen (known self.old) (known self.new) path.now result };
+
+    /// Makes the file of a path, in place of what it held.
+    fn make(&mut self, alloc: Global, path: &str) -> Result<Self::Made, AlbumFault>
+        ensures { known self.new ≡ known self.old };
 }

@@ -64,8 +64,8 @@ fn draw_into<W: Write + Drop>(
     Ok(device)
 }
 
-// Why no file was made.
-fn fault_of(error: &io::Error) -> AlbumFault
+/// Why no file was made.
+pub(crate) fn fault_of(error: &io::Error) -> AlbumFault
     ensures { result ≡ unmade_for (error_kind error.now) }
 {
     match error.kind() {

@@ -3,9 +3,12 @@
 ghost use Rattle.std.specs.Prelude.{None};
 
 use crate::file_store::FileStore;
-use std::fs::File;
+use crate::runtime_album::fault_of;
+use std::alloc::Global;
+use std::fs::{File, create};
 use std::rt::Files;
-use tv_io::{FileReader, ReadFault};
+use tv_io::{Device, FileReader, ReadFault};
+use tv_program::AlbumFault;
 
 /// The files of a runtime. Nothing is known of what they hold.
 #[derive(Drop)]
@@ -23,10 +26,23 @@ impl<'a, R: Files> RuntimeFiles<'a, R> {
 impl<R: Files> FileStore for RuntimeFiles<'_, R> {
     type File = FileReader<R::File>;
 
+    type Made = Device<R::File>;
+
     ghost known = { λ _. record { contents = λ _. None; opened = None } };
 
     fn open(&mut self, path: &str) -> Result<FileReader<R::File>, ReadFault> {
         let file = File::open(self.rt, path)?;
         Ok(FileReader::new(file))
+    }
+
+    fn make(&mut self, alloc: Global, path: &str) -> Result<Device<R::File>, AlbumFault> {
+        let file = match create(self.rt, path) {
+            Ok(file) => file,
+            Err(error) => return Err(fault_of(&error)),
+        };
+        match Device::new(alloc, file) {
+            Ok(device) => Ok(device),
+            Err(_) => Err(AlbumFault::NoMemory),
+        }
     }
 }

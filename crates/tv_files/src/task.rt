@@ -25,6 +25,12 @@ pub enum Task<'a> {
         file: &'a str,
         colours: Colours,
     },
+    /// The same, and what the user did is written as a script.
+    Record {
+        file: &'a str,
+        script: &'a str,
+        colours: Colours,
+    },
     /// The screen that a script leaves of a description, as SVG.
     Picture {
         file: &'a str,

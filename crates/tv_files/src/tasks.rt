@@ -18,6 +18,7 @@ use crate::failure::Failure;
 use crate::file_store::FileStore;
 use crate::filling::fill_file;
 use crate::picturing::{picture_all, picture_file};
+use crate::recording::record_file;
 use crate::{Answered, Done, Inquiry, Scripted, Task, World};
 use std::alloc::Global;
 use tv_check::Checked;
@@ -34,7 +35,7 @@ use tv_view::View;
 pub(crate) const LONGEST: usize = 262_144;
 
 /// What is told where the terminal can't be read.
-const TERMINAL: &str = "standard input";
+pub(crate) const TERMINAL: &str = "standard input";
 
 /// The program's name and version.
 const VERSION: &str = "tvdlg 1.0.0\n";
@@ -74,6 +75,14 @@ pub fn perform<
             whole(run_file(&mut world.files, alloc, paths, views, &mut world.out))
         }
         Task::Play { file, colours } => play_file(alloc, file, colours, views, world),
+        Task::Record {
+            file,
+            script,
+            colours,
+        } => {
+            let paths = Scripted { file, script };
+            record_file(alloc, paths, colours, views, world)
+        }
         Task::Picture { file, script } => {
             let paths = Scripted { file, script };
             whole(picture_file(&mut world.files, alloc, paths, views, &mut world.out))

@@ -117,6 +117,10 @@ fn tell_failure<O: Writer, E: Writer>(failure: &Failure<'_>, out: &mut O, err: &
             tell_unboxed(message, err);
             FAULTY
         }
+        Failure::Tape { script } => {
+            tell_untaped(script, err);
+            OUTSIDE
+        }
     }
 }
 
@@ -129,6 +133,25 @@ fn tell_unwritten<W: Writer>(script: &str, number: usize, err: &mut W)
         stopped: false,
     };
     put_unwritten(&mut pen, script.as_bytes(), number);
+}
+
+// Tells of a script that it can't be written.
+fn tell_untaped<W: Writer>(script: &str, err: &mut W)
+    ensures { IsOffered (W.seen err.old) (W.seen err.new) (unwritten_message script.now) }
+{
+    let mut pen = Pen {
+        out: err,
+        stopped: false,
+    };
+    put_untaped(&mut pen, script.as_bytes());
+}
+
+fn put_untaped<W: Writer>(pen: &mut Pen<W>, script: &[u8])
+    ensures { Puts W.seen pen.old pen.new (unwritten_message script.now) }
+{
+    pen.put(b"tvdlg: cannot write ");
+    pen.put(script);
+    pen.put(b"\n");
 }
 
 fn put_unwritten<W: Writer>(pen: &mut Pen<W>, script: &[u8], number: usize)

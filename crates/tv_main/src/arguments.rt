@@ -192,6 +192,13 @@ fn play<'a>(alloc: Global) -> Result<Command<'a>, AllocError> {
             .default_value("16")
             .action(ArgAction::Set)
             .help("How many colours the terminal has"),
+    )?
+    .arg(
+        Arg::new(alloc, "record")
+            .long("record")
+            .value_name("SCRIPT")
+            .action(ArgAction::Set)
+            .help("Writes what the user does into SCRIPT, as a script for `run` and `picture`"),
     )
 }
 
@@ -362,10 +369,7 @@ fn named_task<'a>(name: &str, found: &ArgMatches<'a>) -> Option<Task<'a>> {
             file,
             script: found.get_str("SCRIPT")?,
         }),
-        "play" => Some(Task::Play {
-            file,
-            colours: colours(found),
-        }),
+        "play" => Some(playing(file, found)),
         "picture" => Some(drawing(file, found.get_str("SCRIPT")?, found)),
         "fill" => Some(Task::Fill {
             file,
@@ -377,6 +381,18 @@ fn named_task<'a>(name: &str, found: &ArgMatches<'a>) -> Option<Task<'a>> {
         }),
         "explain" => Some(explanation(file, found)),
         _ => None,
+    }
+}
+
+fn playing<'a>(file: &'a str, found: &ArgMatches<'a>) -> Task<'a> {
+    let colours = colours(found);
+    match found.get_str("record") {
+        Some(script) => Task::Record {
+            file,
+            script,
+            colours,
+        },
+        None => Task::Play { file, colours },
     }
 }
 

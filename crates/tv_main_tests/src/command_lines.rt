@@ -43,6 +43,11 @@ fn task_told(alloc: Global, task: Task<'_>) -> Result<String, AllocError> {
         ),
         Task::Run { file, script } => format!(in alloc; "runs {script} on {file}\n"),
         Task::Play { file, colours } => format!(in alloc; "plays {file}: {colours:?}\n"),
+        Task::Record {
+            file,
+            script,
+            colours,
+        } => format!(in alloc; "plays {file}: {colours:?}, recorded in {script}\n"),
         Task::Picture { file, script } => format!(in alloc; "draws {file} after {script}\n"),
         Task::PictureAll { file, script } => format!(in alloc; "draws {file} all along {script}\n"),
         Task::Fill { file, answers } => format!(in alloc; "fills {file} with {answers}\n"),
@@ -80,6 +85,10 @@ tvdlg play --colors 256 a.tvd
 => plays a.tvd: Indexed
 tvdlg play a.tvd --colors=16
 => plays a.tvd: Sixteen
+tvdlg play --record a.tvs a.tvd
+=> plays a.tvd: Sixteen, recorded in a.tvs
+tvdlg play --colors 256 --record a.tvs a.tvd
+=> plays a.tvd: Indexed, recorded in a.tvs
 tvdlg picture a.tvd a.tvs
 => draws a.tvd after a.tvs
 tvdlg picture a.tvd a.tvs --all

@@ -273,7 +273,25 @@ const NO_SCRIPT: Task<'static> = Task::Run {
 };
 
 // What is asked for, the description, and what is told.
-const MISSING: [(Task<'static>, &str, &str); 11] = [
+const MISSING: [(Task<'static>, &str, &str); 13] = [
+    (
+        Task::Record {
+            file: FILE,
+            script: "NONE",
+            colours: Colours::Sixteen,
+        },
+        CANCEL,
+        "tvdlg: cannot write NONE\nstatus 3\nopened 1\n",
+    ),
+    (
+        Task::Record {
+            file: FILE,
+            script: "NONE",
+            colours: Colours::Sixteen,
+        },
+        "tvd 1\n",
+        "tvdlg: FILE: syntax at line 2\nstatus 1\nopened 1\n",
+    ),
     (
         Task::Check { file: "FULL" },
         CANCEL,

@@ -135,6 +135,9 @@ Options:
           [default: 16]
           [possible values: 16, 256]
 
+      --record <SCRIPT>
+          Writes what the user does into SCRIPT, as a script for `run` and `picture`
+
   -h, --help
           Print help (see a summary with '-h')
 

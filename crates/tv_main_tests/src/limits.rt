@@ -6,8 +6,9 @@ use crate::sink::Sink;
 use crate::user::User;
 use std::alloc::{AllocError, Global};
 use std::test::Fail;
-use tv_files::{DirectStream, FileStore, ReadFault, Task, World, run_program};
+use tv_files::{AlbumFault, DirectStream, FileStore, ReadFault, Task, World, run_program};
 use tv_io::FileReader;
+use tv_test_support::Memory;
 use tv_test_support::button_views::buttons;
 use tv_test_support::certificates::CANCEL_CERTIFICATE;
 use tv_test_support::descriptions::CANCEL;
@@ -24,6 +25,8 @@ impl<'a> FileStore for Lone<'a> {
 
     type File = FileReader<&'a [u8]>;
 
+    type Made = Memory;
+
     ghost known = { λ _. record { contents = λ _. None; opened = None } };
 
     fn open(&mut self, path: &str) -> Result<FileReader<&'a [u8]>, ReadFault> {
@@ -32,6 +35,10 @@ impl<'a> FileStore for Lone<'a> {
         } else {
             Err(ReadFault::Read)
         }
+    }
+
+    fn make(&mut self, _alloc: Global, _path: &str) -> Result<Memory, AlbumFault> {
+        Err(AlbumFault::Write)
     }
 }
 

@@ -2,10 +2,12 @@
 
 ghost use Rattle.std.specs.Prelude.{◌≡◌, false};
 
+use std::alloc::Global;
 use std::io;
 use std::io::{ErrorKind, Read};
-use tv_files::{FileStore, ReadFault};
+use tv_files::{AlbumFault, FileStore, ReadFault};
 use tv_io::FileReader;
+use tv_test_support::Memory;
 
 /// What is left of a file in memory.
 #[derive(Drop)]
@@ -64,7 +66,8 @@ impl<'a> Shelf<'a> {
         }
     }
 
-    /// Returns what was opened, a digit for each call: 1 for the description, 2 for the file beside it, 4 for `FULL`, 3 for any other.
+    /// Returns what was opened, a digit for each call: 1 for the description, 2 for the file beside it, 4 for `FULL`, 3 for any other, and 5 for a file
+    /// that was made.
     pub fn opened(&self) -> u32 {
         self.opened
     }
@@ -95,6 +98,8 @@ impl<'a> FileStore for Shelf<'a> {
 
     type File = FileReader<Page<'a>>;
 
+    type Made = Memory;
+
     ghost known = { λ s. record { contents = λ path. text_at s.description.now s.beside.now path; opened = None } };
 
     fn open(&mut self, path: &str) -> Result<FileReader<Page<'a>>, ReadFault> {
@@ -110,6 +115,17 @@ impl<'a> FileStore for Shelf<'a> {
         } else {
             self.note(3);
             Err(ReadFault::Read)
+        }
+    }
+
+    fn make(&mut self, alloc: Global, path: &str) -> Result<Memory, AlbumFault> {
+        if path == "NONE" {
+            return Err(AlbumFault::Write);
+        }
+        self.note(5);
+        match Memory::ample(alloc) {
+            Ok(made) => Ok(made),
+            Err(_) => Err(AlbumFault::NoMemory),
         }
     }
 }

@@ -300,7 +300,6 @@ fn partings(rt: HostRuntime) -> Result<(), Fail> {
         let mut sent = Sent::new(row.sent);
         let ran = played(rt.alloc(), row.desc, &mut sent)?;
         expect_ran(&ran, Ok(row.parting), row.log.as_bytes())?;
-        expect_taped(&ran, row.script)?;
         assert_eq!(rt; sent.reads, row.reads);
     }
     Ok(())

@@ -13,6 +13,9 @@ returns-in-Run g c = rw c.in-Run.is (refl, c.whole-in-Run.ensures.done, rw c.who
 pub returns-in-Play : goal.returns-in-Play
 returns-in-Play g c = rw c.in-Play.is c.play_file.ensures
 
+pub returns-in-Record : goal.returns-in-Record
+returns-in-Record g c = rw c.in-Record.is c.record_file.ensures
+
 pub returns-in-Picture : goal.returns-in-Picture
 returns-in-Picture g c = rw c.in-Picture.is (refl, c.whole-in-Picture.ensures.done, rw c.whole-in-Picture.ensures.end c.picture_file.ensures)
 
