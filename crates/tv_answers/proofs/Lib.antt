@@ -22,5 +22,7 @@ pub mod ToldSessionLemmas
 pub mod NamesLemmas
 pub mod DialogsSavedLemmas
 pub mod ToldReadLemmas
+pub mod ScreenLemmas
+pub mod TextReadLemmas
 pub mod RunReadLemmas
 pub mod Examples

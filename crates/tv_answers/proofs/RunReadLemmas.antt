@@ -2,9 +2,10 @@
 use Rattle.std.proofs.Common.{◌≡◌, ◌⊎◌, inl, inr, ℕ, ◌<◌, ◌==◌, ◌&&◌, not, Bool, true, false, List, [], ◌∷◌, ◌++◌, filter_map, get_or, length, map, position, replicate, Option, Some, None, option_map, unwrap_or, refl, sym, ap, subst, ◌∙◌, append_assoc, All, AllPairs, arith}
 use Rattle.std.specs.List.{cons_option}
 use Rattle.std.specs.Prelude.{slice_get, if◌then◌else◌}
+use Rattle.std.specs.Prelude.{ℤ, pos, ◌≤ℤ◌}
 use Rattle.std.specs.Option.{option_or}
 use Rattle.std.proofs.lemmas.Bool.{false_from_ne_true}
-use Rattle.std.proofs.lemmas.Grind.{flat_map-append}
+use Rattle.std.proofs.lemmas.Int.{ints}
 use Rattle.std.proofs.lemmas.List.{append-nil}
 use Rattle.std.proofs.lemmas.List.Elements.{All-cons, All-head, All-nil, All-tail}
 use Rattle.std.proofs.lemmas.Option.{slice_get-get_or}
@@ -26,17 +27,18 @@ use Rattle.tv_laws.specs.Runs.IsNext.{by_event}
 use Rattle.tv_machine.proofs.EntryLemmas.{entry_at, entry_with}
 use Rattle.tv_machine.proofs.LeafLemmas.{leaves-all}
 use Rattle.tv_machine.proofs.ListLemmas.{AreApart, bool_cases, fails-absent, find-member, id-itself, id-swap, option_cases, same-id}
+use Rattle.tv_machine.specs.declared.script.Item.{Item}
 use Rattle.tv_machine.specs.declared.script.Item.TheVariants as items
 use Rattle.tv_machine.specs.Dialog.Ending.{field_line, fields_of}
 use Rattle.tv_machine.specs.Dialog.Modal.{Modal, content_at}
 use Rattle.tv_machine.specs.Dialog.Sound.{IsSoundDialog}
 use Rattle.tv_machine.specs.Leaves.{PlacedNode, leaf_list}
-use Rattle.tv_machine.specs.Output.{item_text, output, session_after, states, texts}
-use Rattle.tv_machine.specs.Run.{Session, quiet, started}
+use Rattle.tv_machine.specs.Output.{colors_text, item_text, session_after, shot_text, states, texts}
+use Rattle.tv_machine.specs.Run.{Session, quiet}
 use Rattle.tv_machine.specs.Safe.{HasValueOf, field_ids}
 use Rattle.tv_machine.specs.Session.Commands.{modal_of}
 use Rattle.tv_machine.specs.Session.Start.{closed, start, started_at, started_by}
-use Rattle.tv_machine.specs.Session.Step.{step}
+use Rattle.tv_machine.specs.Session.Step.{step, with_empty_log}
 use Rattle.tv_machine.specs.State.{State}
 use Rattle.tv_model.specs.declared.desc.Desc.{Desc}
 use Rattle.tv_model.specs.declared.desc.Dialog.{Dialog}
@@ -48,23 +50,27 @@ use Rattle.tv_model.specs.declared.record.Value.{Value}
 use Rattle.tv_model.specs.Description.Heads.{all_nodes, dialog_head, is_named}
 use Rattle.tv_model.specs.Description.Nodes.{node_of}
 use Rattle.tv_model.specs.Faults.{IsSound}
-use Rattle.tv_model.specs.Log.LogText.{log_line, log_text}
+use Rattle.tv_model.specs.Log.LogText.{log_text}
 use Rattle.tv_model.specs.Log.Record.{Entries}
+use Rattle.tv_model.specs.Description.Numbers.{natural}
+use Rattle.tv_words.specs.Fields.{IsNumber}
+use Rattle.tv_words.specs.Lines.{lines_of}
 use Rattle.tv_answers.specs.declared.answers.Answer.{Answer}
 use Rattle.tv_answers.specs.declared.answers.Answers.{Answers}
 use Rattle.tv_answers.specs.declared.progress.Progress.{Progress}
 use Rattle.tv_answers.specs.declared.progress.Block.TheVariants.{Saved}
-use Rattle.tv_answers.specs.Laws.{AreCharacters, HasCharacters, LogIsRead, dialogs_saved, last_end, lines_after, logged, saving_end}
-use Rattle.tv_answers.specs.ReadLogs.{answers_in, changed_at, no_answer, nothing_read, passed, with_command}
+use Rattle.tv_answers.specs.Laws.{AreCharacters, HasCharacters, LogIsRead, dialogs_saved, last_end, lines_after, saving_end}
+use Rattle.tv_answers.specs.ReadLogs.{answers_of, changed_at, no_answer, nothing_read, passed, with_command}
 use Rattle.tv_answers.proofs.DialogsSavedLemmas.{answer_of, dialog_id, end_ends, last_append, none_ends, old_at, put_again, saved_changed, saved_same}
 use Rattle.tv_answers.proofs.EndReadLemmas.{IsTypedEntry, after_end, all_at, end_lines_read, end_text_is, found, ids_apart}
 use Rattle.tv_answers.proofs.LogNameLemmas.{all_left, all_right, all_unmap, head_named, pairs_right, pairs_unmap}
-use Rattle.tv_answers.proofs.LogReadLemmas.{end_words, field_words, text_read}
+use Rattle.tv_answers.proofs.LogReadLemmas.{end_words, field_words}
 use Rattle.tv_answers.proofs.NamesLemmas.{names_of}
 use Rattle.tv_answers.proofs.OpeningLemmas.{apart, view_id}
 use Rattle.tv_answers.proofs.PutLemmas.{changed_twice, entered, entered_at, entry_id, put_all, put_first, with_all}
+use Rattle.tv_answers.proofs.TextReadLemmas.{TextIsRead, colors_read, log_text_read, natural_number, shot_read, text_append, text_nothing}
 use Rattle.tv_answers.proofs.ToldLemmas.{IsClean, IsNamed, IsTold, told_before}
-use Rattle.tv_answers.proofs.ToldReadLemmas.{IsRead, read_append, read_nothing, told_read}
+use Rattle.tv_answers.proofs.ToldReadLemmas.{IsRead, read_append, told_read}
 use Rattle.tv_answers.proofs.ToldSessionLemmas.{HasNames, start_good, step_good}
 
 -- ---- the fields of an open dialog
@@ -289,21 +295,48 @@ module _ (d : Desc) (can : CanBeSpelled d) (sound : IsSound d) where
   event_read L p s e f windows has h =
       told_read_of L p s (step d s e) f (step_good d names s e f windows).0 has h (saves-what-it-logs d dialogs s (step d s e) f (by_event e refl))
 
-  -- ---- all events
+  -- ---- a script
 
-  run_read : (events : List Event) (L : List LogLine) (p : Progress) (s : State) → IsFitState d s → All (λ window. IsNamed d window.id) s.windows → All AreCharacters (lines_after d s events) → Holds L s p
-      → IsReached L (lines_after d s events) p (states (step d) s events)
-  run_read [] L p s f windows has h = record { reached = p; reads = read_nothing d p; holds = subst (λ log. Holds log s p) (sym (append-nil L)) h }
-  run_read (e ∷ events) L p s f windows has h =
+  abbrev session : State → Session
+  session s = record { desc = d; state = s }
+
+  record IsScripted (L log : List LogLine) (text : List ℕ) (p : Progress) (after : State) : Type 0 where
+    reached : Progress
+    reads : TextIsRead d p text reached
+    holds : Holds (L ++ log) after reached
+
+  width : IsNumber (pos (natural d.width))
+  width = natural_number d.width (pos 20) names.width
+
+  height : IsNumber (pos (natural d.height))
+  height = natural_number d.height (pos 10) (names.height.0, least d.height names.height.1)
+    where
+      least : (z : ℤ) → z ≤ℤ pos 60 → z ≤ℤ pos 132
+      least z h = omega (arith, ints)
+
+  -- a screen changes nothing
+  then_scripted : (L log : List LogLine) (screen text : List ℕ) (p : Progress) (after : State) → TextIsRead d p screen p → IsScripted L log text p after → IsScripted L log (screen ++ text) p after
+  then_scripted L log screen text p after here t = record { reached = t.reached; reads = text_append d p p t.reached screen text here t.reads; holds = t.holds }
+
+  run_read : (script : List Item) (L : List LogLine) (p : Progress) (s : State) → IsFitState d s → All (λ window. IsNamed d window.id) s.windows → All AreCharacters (lines_after d s script) → Holds L s p
+      → IsScripted L (lines_after d s script) (texts session_after item_text (quiet (session s)) script) p (states session_after (quiet (session s)) script).state
+  run_read [] L p s f windows has h = record { reached = p; reads = text_nothing d p; holds = subst (λ log. Holds log s p) (sym (append-nil L)) h }
+  run_read (items.Event e ∷ script) L p s f windows has h =
       let after = step d s e in
-      let rest = lines_after d after events in
+      let rest = lines_after d after script in
       let r = event_read L p s e f windows (all_left AreCharacters after.log rest has) h in
-      let t = run_read events (L ++ after.log) r.reached after (runs-fit d dialogs s after f (by_event e refl)) (step_good d names s e f windows).1 (all_right AreCharacters after.log rest has) r.holds in
+      let t = run_read script (L ++ after.log) r.reached after (runs-fit d dialogs s after f (by_event e refl)) (step_good d names s e f windows).1 (all_right AreCharacters after.log rest has) r.holds in
       record {
         reached = t.reached;
-        reads = read_append d p r.reached t.reached after.log rest r.reads t.reads;
-        holds = subst (λ log. Holds log (states (step d) after events) t.reached) (append_assoc L after.log rest) t.holds;
+        reads = text_append d p r.reached t.reached (log_text d after.log) (texts session_after item_text (quiet (session after)) script) (log_text_read d p r.reached after.log r.reads) t.reads;
+        holds = subst (λ log. Holds log (states session_after (quiet (session after)) script).state t.reached) (append_assoc L after.log rest) t.holds;
       }
+  run_read (items.Shot ∷ script) L p s f windows has h =
+      then_scripted L (lines_after d s script) (shot_text (quiet (session s))) (texts session_after item_text (quiet (session s)) script) p (states session_after (quiet (session s)) script).state
+      (shot_read d width height p (with_empty_log s)) (run_read script L p s f windows has h)
+  run_read (items.Colors ∷ script) L p s f windows has h =
+      then_scripted L (lines_after d s script) (colors_text (quiet (session s))) (texts session_after item_text (quiet (session s)) script) p (states session_after (quiet (session s)) script).state
+      (colors_read d width height p (with_empty_log s)) (run_read script L p s f windows has h)
 
   -- ---- the start
 
@@ -330,27 +363,18 @@ module _ (d : Desc) (can : CanBeSpelled d) (sound : IsSound d) where
       let log = (start d).log in
       told_read d (nothing_read d) log (told_before d log [] (begun_by d.start).0 (subst (IsClean d) (sym (append-nil log)) (start_good d names).0))
 
-  -- ---- the text
+  -- ---- the whole
 
-  abbrev session : State → Session
-  session s = record { desc = d; state = s }
-
-  written : (events : List Event) (s : State) → texts session_after item_text (quiet (session s)) (map items.Event events) ≡ log_text d (lines_after d s events)
-  written [] s = refl
-  written (e ∷ events) s =
-      ap (λ bs. log_text d (step d s e).log ++ bs) (written events (step d s e))
-      ∙ sym (flat_map-append (log_line d) (step d s e).log (lines_after d (step d s e) events))
-
-  output_is : (events : List Event) → output (started d) (map items.Event events) ≡ log_text d (logged d events)
-  output_is events =
-      ap (λ bs. log_text d (start d).log ++ bs) (written events (start d)) ∙ sym (flat_map-append (log_line d) (start d).log (lines_after d (start d) events))
+  whole_lines : (text : List ℕ) (p q : Progress) (x : TextIsRead d p text q) → lines_of text ≡ x.lines
+  whole_lines text p q x = ap lines_of (sym (append-nil text)) ∙ x.split [] ∙ append-nil x.lines
 
   pub log_is_read : LogIsRead d
-  log_is_read events has =
+  log_is_read script has =
       let log = (start d).log in
-      let rest = lines_after d (start d) events in
-      let t = run_read events log (nothing_read d) (start d) (start-fit d dialogs) (start_good d names).1 (all_right AreCharacters log rest has) start_holds in
-      let whole : IsRead d (nothing_read d) (logged d events) t.reached = read_append d (nothing_read d) (nothing_read d) t.reached log rest start_read t.reads in
-      ap (answers_in d) (output_is events ∙ whole.text)
-      ∙ ap (option_map (λ p. p.answers)) (text_read d 1 (nothing_read d) t.reached whole.words (whole.lines 1))
+      let rest = lines_after d (start d) script in
+      let t = run_read script log (nothing_read d) (start d) (start-fit d dialogs) (start_good d names).1 (all_right AreCharacters log rest has) start_holds in
+      let text = texts session_after item_text (quiet (session (start d))) script in
+      let whole = text_append d (nothing_read d) (nothing_read d) t.reached (log_text d log) text (log_text_read d (nothing_read d) (nothing_read d) log start_read) t.reads in
+      ap (answers_of d) (whole_lines (log_text d log ++ text) (nothing_read d) t.reached whole)
+      ∙ ap (option_map (λ p. p.answers)) (whole.answered 1)
       ∙ ap (λ a. Some a) t.holds

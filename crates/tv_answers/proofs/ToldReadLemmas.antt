@@ -31,13 +31,13 @@ use Rattle.tv_answers.proofs.ToldLemmas.{IsNamed, IsTold}
 
 -- ---- bytes
 
-number_bytes : (z : ℤ) → IsNumber z → encode_utf8_all (word_text (number_word z)) ≡ signed_decimal z
+pub number_bytes : (z : ℤ) → IsNumber z → encode_utf8_all (word_text (number_word z)) ≡ signed_decimal z
 unfolding encode
 number_bytes (pos n) fits = encodes-IsAscii (decimal n) (IsAscii-decimal n (omega (arith, fits.sfits)))
 number_bytes (negsuc n) fits = ap (λ bs. 45 ∷ bs) (encodes-IsAscii (decimal (suc n)) (IsAscii-decimal (suc n) (omega (arith, fits.sfits))))
 
 -- a keyword and more words
-words_text : (k : List ℕ) (ws : List Word) (bs : List ℕ) → encode_utf8_all k ≡ k → spaced_bytes ws ≡ 32 ∷ bs → line_of (k ++ 32 ∷ []) bs ≡ ended_line (Bare k ∷ ws)
+pub words_text : (k : List ℕ) (ws : List Word) (bs : List ℕ) → encode_utf8_all k ≡ k → spaced_bytes ws ≡ 32 ∷ bs → line_of (k ++ 32 ∷ []) bs ≡ ended_line (Bare k ∷ ws)
 unfolding line_of ended_line
 words_text k ws bs ascii same =
     ap (λ xs. xs ++ 10 ∷ []) (append_assoc k (32 ∷ []) bs)
@@ -94,7 +94,7 @@ told_text d (lines.Field i value) told = absurd told
 name_passed : (w : Word) (name : List ℕ) (c : Bool) → is_happening w ≡ true → IsName name → ((is_happening w && is_name_word (Bare name)) || c) ≡ true
 name_passed w name c is named = rw (is, read_name name named) refl
 
-number_passed : (z : ℤ) → IsNumber z → is_number (number_word z) ≡ true
+pub number_passed : (z : ℤ) → IsNumber z → is_number (number_word z) ≡ true
 number_passed z fits = ap is_some (read_number_word z fits)
 
 module _ (d : Desc) (n : ℕ) (p : Progress) where

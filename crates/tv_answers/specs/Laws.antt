@@ -1,11 +1,10 @@
 -- What answers and logs come to, as laws.
 use lib.Utf8.{scalars}
-use Rattle.std.specs.Prelude.{◌≡◌, ℕ, true, not, ◌&&◌, List, [], ◌∷◌, ◌++◌, map, slice_get, Option, Some, None, unwrap_or, All, IsTrue}
+use Rattle.std.specs.Prelude.{◌≡◌, ℕ, true, not, ◌&&◌, List, [], ◌∷◌, ◌++◌, slice_get, Option, Some, None, unwrap_or, All, IsTrue}
 use Rattle.std.specs.Prelude.{◌==◌, if◌then◌else◌}
 use Rattle.std.specs.Option.{option_or}
 use Rattle.tv_event.specs.Commands.{cm_cancel}
 use Rattle.tv_event.specs.declared.event.Command.{Command}
-use Rattle.tv_event.specs.declared.event.Event.{Event}
 use Rattle.tv_model.specs.declared.desc.Desc.{Desc}
 use Rattle.tv_model.specs.declared.desc.Dialog.{Dialog}
 use Rattle.tv_model.specs.declared.log.LogLine.{LogLine}
@@ -18,15 +17,15 @@ use Rattle.tv_model.specs.Description.Heads.{dialog_head}
 use Rattle.tv_model.specs.Log.LogText.{log_text}
 use Rattle.tv_model.specs.Log.Record.{Entries}
 use Rattle.tv_machine.specs.Dialog.Opening.{opened_leaves}
+use Rattle.tv_machine.specs.declared.script.Item.{Item}
 use Rattle.tv_machine.specs.declared.script.Item.TheVariants as items
-use Rattle.tv_machine.specs.Output.{output}
+use Rattle.tv_machine.specs.Output.{after, output}
 use Rattle.tv_machine.specs.Run.{started}
 use Rattle.tv_machine.specs.Safe.{IsSafeRecord}
 use Rattle.tv_machine.specs.Session.Start.{start}
 use Rattle.tv_machine.specs.Session.Step.{step}
 use Rattle.tv_machine.specs.State.{State}
 use Rattle.tv_laws.specs.Records.{end_lines}
-use Rattle.tv_laws.specs.Runs.{state_after}
 use Rattle.tv_answers.specs.declared.answers.Answer.{Answer}
 use Rattle.tv_answers.specs.declared.answers.Answers.{Answers}
 use Rattle.tv_answers.specs.Filling.{filled}
@@ -79,14 +78,16 @@ EndsAreRead d =
 
 -- ---- runs
 
--- the lines that a run logs from a state on
-abbrev pub lines_after : Desc → State → List Event → List LogLine
+-- the lines that a run logs for items from a state on
+abbrev pub lines_after : Desc → State → List Item → List LogLine
 lines_after d s [] = []
-lines_after d s (e ∷ es) = (step d s e).log ++ lines_after d (step d s e) es
+lines_after d s (items.Event e ∷ rest) = (step d s e).log ++ lines_after d (step d s e) rest
+lines_after d s (items.Shot ∷ rest) = lines_after d s rest
+lines_after d s (items.Colors ∷ rest) = lines_after d s rest
 
--- all lines that a run logs
-abbrev pub logged : Desc → List Event → List LogLine
-logged d events = (start d).log ++ lines_after d (start d) events
+-- all lines that it logs
+abbrev pub logged : Desc → List Item → List LogLine
+logged d script = (start d).log ++ lines_after d (start d) script
 
 -- the texts of fields are of characters
 abbrev pub AreCharacters : LogLine → Type 0
@@ -110,10 +111,14 @@ dialogs_saved log (dialog ∷ dialogs) (saved ∷ rest) =
     record { command = last_end dialog.node.id log; entries = unwrap_or saved [] } ∷ dialogs_saved log dialogs rest
 dialogs_saved log _ _ = []
 
--- what a run writes for events answers, without a misfit, what it saved in the end, each dialog with the command
--- of its last end but `cancel`
+-- what a run writes for a script answers, without a misfit, what it saved in the end, each dialog with the
+-- command of its last end but `cancel`
 abbrev pub LogIsRead : Desc → Type 0
 LogIsRead d =
-    (events : List Event) → All AreCharacters (logged d events)
-    → answers_in d (output (started d) (map items.Event events))
-    ≡ Some (record { dialogs = dialogs_saved (logged d events) d.dialogs (state_after d events).saved; misfits = [] })
+    (script : List Item) → All AreCharacters (logged d script)
+    → answers_in d (output (started d) script)
+    ≡ Some
+    (record {
+      dialogs = dialogs_saved (logged d script) d.dialogs (after (started d) script).state.saved;
+      misfits = [];
+    })

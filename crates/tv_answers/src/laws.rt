@@ -21,7 +21,7 @@ pub fn ends_are_read(_desc: &Desc)
     ensures { EndsAreRead _desc.now }
 {}
 
-/// A theorem, as a function without a body: what a run of a sound description that a text can spell logs of events
+/// A theorem, as a function without a body: what a run of a sound description that a text can spell writes for a script
 /// answers, without a misfit, what the run saved, and of each dialog the command of its last end but `cancel`.
 pub fn log_is_read(_desc: &Desc)
     requires spelled { CanBeSpelled _desc.now }
