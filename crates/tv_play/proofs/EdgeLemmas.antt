@@ -1,12 +1,12 @@
 -- What is brought to the screen is on it.
-use Rattle.std.proofs.Common.{◌≡◌, ℤ, pos, negsuc, ◌≤ℤ◌, ◌<ℤ◌, ◌-◌, ◌⊎◌, inl, inr, int_le, int_lt, ℕ, Bool, true, false, cond, refl, arith}
+use Rattle.std.proofs.Common.{◌≡◌, ℤ, pos, negsuc, ◌≤ℤ◌, ◌<ℤ◌, ◌-◌, int_le, int_lt, Bool, true, false, cond, refl, arith}
 use Rattle.std.proofs.lemmas.Int.{ints}
 use Rattle.tv_cells.specs.declared.rect.Point.{Point}
 use Rattle.tv_event.specs.declared.event.Event.{Event}
 use Rattle.tv_event.specs.declared.event.Event.TheVariants as events
 use Rattle.tv_model.specs.Description.Numbers.{natural}
 use Rattle.tv_model.specs.declared.desc.Desc.{Desc}
-use Rattle.tv_play.specs.Edge.{brought, nearest, nearest_point, pressed_point, top_left}
+use Rattle.tv_play.specs.Edge.{brought, nearest, nearest_point, top_left}
 use Rattle.tv_script.specs.Lines.{is_point_within}
 use Rattle.tv_terminal.specs.Points.{HasPlaces, IsMousePlace, IsPlaced}
 use Rattle.tv_terminal.specs.Sent.{IsSent}

@@ -18,7 +18,7 @@ use Rattle.tv_play.proofs.EdgeLemmas.{le-holds, lt-holds, lt-says, nearest-place
 use Rattle.tv_script.specs.Lines.{is_on_axis, is_point_within}
 use Rattle.tv_script.specs.Tapes.{IsPointOf, IsSayable, IsSayableKey}
 use Rattle.tv_terminal.proofs.SentLemmas.{byte_is_sent, pause_is_sent}
-use Rattle.tv_terminal.specs.Decoding.{Listening, Symbol, Byte, Pause, at_pause, before, between, decode, decode_after, heard, heard_at_pause, left_by}
+use Rattle.tv_terminal.specs.Decoding.{Listening, Symbol, Byte, Pause, at_pause, before, between, decode_after, heard, heard_at_pause, left_by}
 use Rattle.tv_terminal.specs.Points.{HasPlaces, IsMousePlace}
 use Rattle.tv_terminal.specs.Sent.{IsSent, IsSentAction, IsSentKey}
 use Rattle.tv_terminal.specs.declared.action.Action.{Action}

@@ -1,5 +1,5 @@
 -- The player of a run in a terminal: what its calls keep, and what comes of them.
-use Rattle.std.specs.Prelude.{◌≡◌, false, List, [], ◌++◌, Option, None, Result}
+use Rattle.std.specs.Prelude.{◌≡◌, false, List, ◌++◌, Option, None, Result}
 use Rattle.tv_io.specs.Writer.{Seen}
 use Rattle.tv_machine.specs.Run.{Session}
 use Rattle.tv_terminal.specs.Decoding.{Symbol, decode, left}

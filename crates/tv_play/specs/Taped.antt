@@ -1,5 +1,5 @@
 -- What is heard of a user, as a script.
-use Rattle.std.specs.Prelude.{ℤ, pos, ◌≤ℤ◌, List}
+use Rattle.std.specs.Prelude.{pos, ◌≤ℤ◌, List}
 use Rattle.std.specs.List.{AllByRecursion}
 use Rattle.tv_machine.specs.Run.{Session}
 use Rattle.tv_play.specs.Ends.{events_in}

@@ -9,3 +9,4 @@ pub mod GainLemmas
 pub mod DrawingLemmas
 pub mod PictureLemmas
 pub mod ShotLemmas
+pub mod BegunTextLemmas

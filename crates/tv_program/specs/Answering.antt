@@ -5,6 +5,8 @@ use Rattle.tv_answers.specs.declared.answers.Answer.{Answer}
 use Rattle.tv_answers.specs.declared.answers.Answers.{Answers}
 use Rattle.tv_answers.specs.Filling.{filled}
 use Rattle.tv_declarations.specs.CanonicalDescription.{description_text}
+use Rattle.tv_lang.specs.Faults.{Spells}
+use Rattle.tv_words.specs.Fields.{IsName}
 use Rattle.tv_io.specs.Writer.{Seen, Takes, Cuts}
 use Rattle.tv_machine.specs.Run.{Session, commanded, quiet, started}
 use Rattle.tv_machine.specs.Safe.{IsSafe}
@@ -41,6 +43,11 @@ begun_with d name = record d { start = Some name }
 -- its text
 abbrev pub begun_text : Desc → List ℕ → List ℕ
 begun_text d name = description_text (begun_with d name)
+
+-- what that text spells has it as its own canonical text: it is the description with the dialog open, but for the
+-- numbers of its lines
+abbrev pub BeginsAlike : Desc → Type 0
+BeginsAlike d = (name : List ℕ) (e : Desc) → IsName name → Spells (begun_text d name) e → description_text e ≡ begun_text d name
 
 -- an end that is given, and the description in whose run it is
 pub record AnsweredRun : Type 0 where

@@ -4,7 +4,8 @@ ghost use Rattle.std.specs.Prelude.{◌≡◌, ◌++◌, false, string_bytes, zi
 ghost use Rattle.tv_io.specs.Pen.{Puts};
 ghost use Rattle.tv_machine.specs.Run.{Session, commanded, quiet, started};
 ghost use Rattle.tv_machine.specs.Session.Step.{takes_command};
-ghost use Rattle.tv_program.specs.Answering.{AnswersTo, AreRuns, IsUnbegun, RefusesRun, begun_text, begun_with, ending_of, logged, run_log, runs_log};
+ghost use Rattle.tv_lang.specs.CanonicalDescription.{CanBeSpelled};
+ghost use Rattle.tv_program.specs.Answering.{AnswersTo, AreRuns, BeginsAlike, IsUnbegun, RefusesRun, begun_text, begun_with, ending_of, logged, run_log, runs_log};
 ghost use Rattle.tv_program.specs.AnswerRuns.{AllEndBy, EndsAll, EndsBy, StandsBegun, outcome_of, run_of, runs_of};
 ghost use Rattle.tv_program.specs.Playing.{IsMismade, Makes};
 ghost use Rattle.tv_program.specs.Reading.{IsSoundText};
@@ -70,6 +71,13 @@ pub fn answer_text<
     let runs = begin_runs(alloc, full, endings, make)?;
     end_dialogs(runs, out)
 }
+
+/// A theorem, as a function without a body: what the text of a description with a dialog open spells is that description with
+/// the dialog open, but for the numbers of lines. So each run of `answer_text` is one of the filled description.
+pub fn begun_texts_are_alike(_desc: &Desc)
+    requires { CanBeSpelled _desc.now }
+    ensures { BeginsAlike _desc.now }
+{}
 
 // The end that a dialog is given, if it is answered.
 fn ending_of(alloc: Global, dialog: &Dialog, answer: &Answer) -> Result<Option<Ending>, AllocError>

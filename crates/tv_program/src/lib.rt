@@ -25,7 +25,7 @@ mod trouble;
 pub use accept_fault::AcceptFault;
 pub use album::{Album, AlbumFault};
 pub use answer_fault::{AnswerFault, Ending};
-pub use answering::answer_text;
+pub use answering::{answer_text, begun_texts_are_alike};
 pub use check_fault::CheckFault;
 pub use checking::{accept_files, accept_text, check};
 pub use drawing::{draw, draw_shots};

@@ -1,7 +1,7 @@
 use Rattle.std.proofs.Common.{false, true, sym, ◌∙◌}
 use Rattle.std.proofs.lemmas.List.{append-nil}
 use Rattle.tv_io.proofs.PenLemmas.{Puts-along, Puts-then}
-use Rattle.tv_play.proofs.ShownLemmas.{alike-size, keeps-in, shown-more, size-alike}
+use Rattle.tv_play.proofs.ShownLemmas.{alike-size, keeps-in, shown-more}
 use Rattle.tv_play.proofs.show.repaint.Goals as goal
 
 pub paint-requires : goal.paint-requires

@@ -1,4 +1,4 @@
-use Rattle.std.proofs.Common.{◌≡◌, false, refl, ap, subst, sym, ◌∙◌}
+use Rattle.std.proofs.Common.{◌≡◌, refl, ap, subst, sym, ◌∙◌}
 use Rattle.tv_machine.specs.Output.{after}
 use Rattle.tv_machine.specs.Run.{quiet, stepped}
 use Rattle.tv_model.specs.declared.desc.Desc.{Desc}
