@@ -1,0 +1,5 @@
+use Rattle.tv_reasons.proofs.CutLemmas.{still_line}
+use Rattle.tv_reasons.proofs.line.Line.push_all.Goals as goal
+
+pub invariant_of-self : goal.invariant_of-self
+invariant_of-self c = rw c.push_all.ensures (still_line c.self.inside.chars.items c.args.more.now c.self.invariant.1)
