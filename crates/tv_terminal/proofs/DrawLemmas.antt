@@ -1,5 +1,6 @@
 -- How what is drawn is put together.
-use Rattle.std.proofs.Common.{◌≡◌, ℕ, ◌+◌, ◌<◌, Bool, true, false, ◌⊎◌, inl, inr, List, [], ◌++◌, Some, refl, sym, ap, subst, ◌∙◌, arith, append_assoc, not, ◌==◌, ◌&&◌}
+use Rattle.std.proofs.Common.{◌≡◌, ℕ, ◌+◌, ◌<◌, nat_lt, Bool, true, false, ◌⊎◌, inl, inr, List, [], ◌++◌, Some, refl, sym, ap, subst, ◌∙◌, arith, append_assoc, not, ◌==◌, ◌&&◌}
+use Rattle.std.proofs.lemmas.Bool.Decides.{nat_tests}
 use Rattle.std.proofs.lemmas.List.{append-nil}
 use Rattle.tv_cells.specs.Glyph.{Glyph, glyph}
 use Rattle.tv_cells.specs.Picture.{Picture, IsOn, IsAlike, IsPlace, Changes, cell_at}
@@ -10,9 +11,10 @@ use Rattle.tv_io.specs.Writer.{Seen}
 use Rattle.tv_io.specs.declared.pen.Pen.{Pen}
 use Rattle.tv_io.proofs.PenLemmas.{Puts-none, Puts-then}
 use Rattle.tv_terminal.specs.Displays.{Displays, HasSpace, IsPrintable, ShowsIn, Stays, Becomes, drawn, tile_of}
-use Rattle.tv_terminal.specs.Written.{cell_bytes}
+use Rattle.tv_terminal.specs.Written.{cell_bytes, is_seen}
 use Rattle.tv_terminal.specs.Terminal.{Display, Terminal, ground, told}
-use Rattle.tv_terminal.specs.Writing.{Drawn, Draws, IsShown}
+use Rattle.tv_terminal.specs.Writing.{Covers, Drawn, Draws, IsShown}
+use Rattle.tv_terminal.specs.declared.action.Size.{Size}
 use Rattle.tv_terminal.specs.declared.colour.Colours.{Colours}
 use Rattle.tv_terminal.specs.declared.hand.Hand.{Hand}
 use Rattle.tv_terminal.specs.declared.painter.Painter.{Painter}
@@ -67,6 +69,9 @@ stays-then p q = record {
   lost = q.lost ∙ p.lost;
 }
 
+pub covers-still : {p q : Picture} {v w : Size} → IsAlike p q → w ≡ v → Covers v p → Covers w q
+covers-still alike same covers = record { across = rw (alike.width, same) covers.across; down = rw (alike.height, same) covers.down }
+
 pub room-still : {p q : Picture} {d e : Display} → IsAlike p q → Stays d e → HasSpace p d → HasSpace q e
 room-still alike stays room = record {
   across = rw (alike.width, stays.columns) room.across;
@@ -119,12 +124,13 @@ module _ {A B Whole : ℕ → ℕ → Type 0} (test : (column row : ℕ) → B c
   draws-then {screen = screen} {hand = hand} {between = between} {after = after} p q = record {
     known = q.known ∙ p.known;
     colours = q.colours ∙ p.colours;
+    window = q.window ∙ p.window;
     same = q.same ∙ p.same;
     changes = changes-over screen p.changes q.changes;
     text = p.text ++ q.text;
     puts = puts-then hand.waiting.items between.waiting.items after.waiting.items p.text q.text p.puts q.puts;
-    tells = λ d held knows room right.
-        tells-then p.text (p.tells d held knows room right)
+    tells = λ d covers held knows room right.
+        tells-then p.text (p.tells d covers held knows room right)
         (λ e law. tells-as (λ f more. (
           more.0,
           more.1 ∙ law.1,
@@ -133,7 +139,7 @@ module _ {A B Whole : ℕ → ℕ → Type 0} (test : (column row : ℕ) → B c
             right = more.2.right;
             stays = stays-then law.2.stays more.2.stays;
           },
-        )) (q.tells e (p.same ∙ held ∙ sym p.colours) law.0 (room-still p.changes.size law.2.stays room) law.2.right));
+        )) (q.tells e (covers-still p.changes.size p.window covers) (p.same ∙ held ∙ sym p.colours) law.0 (room-still p.changes.size law.2.stays room) law.2.right));
   }
 
 -- the same region of the screen by other words
@@ -143,11 +149,12 @@ pub draws-along : {A B : ℕ → ℕ → Type 0} {W : Type 0} {seen : W → Seen
 draws-along alike to back p = record {
   known = p.known;
   colours = p.colours;
+  window = p.window;
   same = p.same;
   changes = changes_along (λ column row on a. to column row a) (λ column row on b. back column row (record { across = rw alike.width on.across; down = rw alike.height on.down }) b) p.changes;
   text = p.text;
   puts = p.puts;
-  tells = λ d held knows room right. tells-as (λ e law. (
+  tells = λ d covers held knows room right. tells-as (λ e law. (
     law.0,
     law.1,
     record {
@@ -158,7 +165,7 @@ draws-along alike to back p = record {
       right = law.2.right;
       stays = law.2.stays;
     },
-  )) (p.tells d held knows room right);
+  )) (p.tells d covers held knows room right);
 }
 
 pub draws-none : {Region : ℕ → ℕ → Type 0} {W : Type 0} {seen : W → Seen} {screen : Picture} {painter : Painter} (hand : Hand) {x : Pen W} → ((column row : ℕ) → Region column row → ⊥)
@@ -166,11 +173,12 @@ pub draws-none : {Region : ℕ → ℕ → Type 0} {W : Type 0} {seen : W → Se
 draws-none hand empty = record {
   known = refl;
   colours = refl;
+  window = refl;
   same = refl;
   changes = changes_none (λ column row on here. empty column row here);
   text = [];
   puts = puts-none hand.waiting.items;
-  tells = λ d held knows room right. record {
+  tells = λ d covers held knows room right. record {
     after = d;
     is = refl;
     law = (
@@ -187,12 +195,22 @@ draws-none hand empty = record {
 
 -- ---- one cell
 
+pub seen-on : (window : Size) (p : Picture) (column row : ℕ) → IsOn p column row → Covers window p → is_seen window (column, row) ≡ true
+seen-on window p column row on covers =
+    let a : nat_lt column window.columns ≡ true = grind (arith, nat_tests, on.across, covers.across) in
+    let b : nat_lt row window.rows ≡ true = grind (arith, nat_tests, on.down, covers.down) in
+    rw (a, b) refl
+
+unseen-on : (window : Size) (p : Picture) (column row : ℕ) → IsOn p column row → Covers window p → is_seen window (column, row) ≡ false → ⊥
+unseen-on window p column row on covers apart = let clash : true ≡ false = sym (seen-on window p column row on covers) ∙ apart in absurd cc
+
 -- nothing is written where the terminal is known to show it
 pub draws-same : {W : Type 0} {seen : W → Seen} {screen : Picture} {painter : Painter} (hand : Hand) {x : Pen W} (column row : ℕ) → IsAlike painter.shown screen → painter.is_known ≡ true
     → cell_at painter.shown column row ≡ cell_at screen column row → Draws seen (IsPlace column row) screen painter painter hand hand x x
 draws-same {painter = painter} hand column row alike known same = record {
   known = refl;
   colours = refl;
+  window = refl;
   same = refl;
   changes = record {
     size = record { width = refl; height = refl };
@@ -201,7 +219,7 @@ draws-same {painter = painter} hand column row alike known same = record {
   };
   text = [];
   puts = puts-none hand.waiting.items;
-  tells = λ d held knows room right. record {
+  tells = λ d covers held knows room right. record {
     after = d;
     is = refl;
     law = (
@@ -220,7 +238,7 @@ draws-same {painter = painter} hand column row alike known same = record {
 }
 
 module _ (screen : Picture) (old new : Painter) (column row : ℕ) (cell : Glyph) (on : IsOn old.shown column row) (is : cell ≡ cell_at screen column row)
-    (took : Changes (IsPlace column row) (λ _ _ _. cell) old.shown new.shown) (known : new.is_known ≡ old.is_known) (colours : new.colours ≡ old.colours) where
+    (took : Changes (IsPlace column row) (λ _ _ _. cell) old.shown new.shown) (known : new.is_known ≡ old.is_known) (colours : new.colours ≡ old.colours) (window : new.window ≡ old.window) where
   taken : cell_at new.shown column row ≡ cell
   taken = took.inside column row on (refl, refl)
 
@@ -259,11 +277,12 @@ module _ (screen : Picture) (old new : Painter) (column row : ℕ) (cell : Glyph
   draws-cell {hand = hand} small printable puts place attr same = record {
     known = known;
     colours = colours;
+    window = window;
     same = same;
     changes = cell-changes;
     text = cell_bytes hand.colours hand.place hand.attr column row cell;
     puts = puts;
-    tells = λ d held knows room right. record {
+    tells = λ d covers held knows room right. record {
       after = drawn old.colours column row cell d;
       is =
           ap (λ (c : Colours). told (ground d) (cell_bytes c hand.place hand.attr column row cell)) held
@@ -272,6 +291,21 @@ module _ (screen : Picture) (old new : Painter) (column row : ℕ) (cell : Glyph
       law = (record { stands = rw place (refl, refl); writes = rw (attr, colours) (refl, refl) }, refl, drawn-cell d room right);
     };
   }
+
+-- a place that isn't in the window is taken over, and not written: then the window has not all of the screen
+pub draws-unseen : {W : Type 0} {seen : W → Seen} {screen : Picture} {old new : Painter} (hand : Hand) {x : Pen W} (column row : ℕ) (cell : Glyph) → IsOn old.shown column row → cell ≡ cell_at screen column row
+    → Changes (IsPlace column row) (λ _ _ _. cell) old.shown new.shown → new.is_known ≡ old.is_known → new.colours ≡ old.colours → new.window ≡ old.window → is_seen new.window (column, row) ≡ false
+    → Draws seen (IsPlace column row) screen old new hand hand x x
+draws-unseen {screen = screen} {old = old} {new = new} hand column row cell on is took known colours window apart = record {
+  known = known;
+  colours = colours;
+  window = window;
+  same = refl;
+  changes = cell-changes screen old new column row cell on is took known colours window;
+  text = [];
+  puts = puts-none hand.waiting.items;
+  tells = λ d covers held knows room right. absurd (unseen-on old.window old.shown column row on covers (rw window at apart));
+}
 
 not-false : (b : Bool) → not b ≡ false → b ≡ true
 not-false true e = refl

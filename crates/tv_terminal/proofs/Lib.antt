@@ -11,6 +11,7 @@ pub mod SpotLemmas
 pub mod DrawLemmas
 pub mod RegionLemmas
 pub mod PaintLemmas
+pub mod NoteLemmas
 mod Examples
 mod NearestExamples
 pub mod StripLemmas

@@ -1,24 +1,27 @@
 -- A screen that is painted, with its cursor, and the begin and the end.
-use Rattle.std.proofs.Common.{◌≡◌, ℕ, pos, ◌<◌, ◌≤◌, Bool, true, false, subst, List, [], ◌∷◌, ◌++◌, Option, Some, None, IfSome, is_some, refl, sym, ap, ◌∙◌, arith, append_assoc}
+use Rattle.std.proofs.Common.{◌≡◌, ℕ, pos, ◌<◌, ◌≤◌, Bool, true, false, subst, List, [], ◌∷◌, ◌++◌, Option, Some, None, IfSome, inl, inr, if◌then◌else◌, is_some, refl, sym, ap, ◌∙◌, arith, append_assoc}
 use Rattle.std.proofs.lemmas.Int.{ints}
 use Rattle.tv_cells.specs.Picture.{Picture, IsOn, IsAlike}
 use Rattle.tv_cells.specs.Rectangle.{sized}
 use Rattle.tv_cells.specs.Repainting.{has_cell}
 use Rattle.tv_cells.specs.declared.rect.Rect.{Rect}
-use Rattle.tv_cells.proofs.DamageLemmas.{is_in-true, or_left}
+use Rattle.tv_cells.specs.Layers.{is_in}
+use Rattle.tv_cells.proofs.DamageLemmas.{is_in-true, or_left, or_split}
+use Rattle.tv_cells.proofs.LayerLemmas.{is_in_true}
 use Rattle.tv_io.specs.Pen.{Puts, PutsPart}
 use Rattle.tv_io.specs.Writer.{Seen}
 use Rattle.tv_io.specs.declared.pen.Pen.{Pen}
 use Rattle.tv_io.proofs.PenLemmas.{Puts-then, Puts-along}
-use Rattle.tv_terminal.specs.Displays.{HasCursor, HasSpace, Knows, tile_of}
-use Rattle.tv_terminal.specs.Written.{begin_bytes, cursor_bytes, end_bytes, going, place_after, showing}
+use Rattle.tv_terminal.specs.Displays.{Becomes, HasCursor, HasSpace, Knows, tile_of}
+use Rattle.tv_terminal.specs.Written.{begin_bytes, cursor_bytes, end_bytes, going, is_seen, place_after, seen, showing}
 use Rattle.tv_terminal.specs.Terminal.{Covered, Display, Plain, Terminal, ground, kept_of, told}
-use Rattle.tv_terminal.specs.Writing.{BeginsScreen, Drawn, Draws, IsRight, IsShown, Paints, restored}
+use Rattle.tv_terminal.specs.Writing.{BeginsScreen, Covers, Drawn, Draws, IsRight, IsShown, Painted, Paints, restored}
+use Rattle.tv_terminal.specs.declared.action.Size.{Size}
 use Rattle.tv_terminal.specs.declared.colour.Colours.{Colours}
 use Rattle.tv_terminal.specs.declared.hand.Hand.{Hand}
 use Rattle.tv_terminal.specs.declared.painter.Painter.{Painter}
 use Rattle.tv_terminal.proofs.ToldLemmas.{told-++, told-going}
-use Rattle.tv_terminal.proofs.DrawLemmas.{displays-by, on-alike, shows-by, tells-then}
+use Rattle.tv_terminal.proofs.DrawLemmas.{displays-by, on-alike, seen-on, shows-by, tells-then}
 
 true-not-false : {b : Bool} → b ≡ true → b ≡ false → ⊥
 true-not-false e f = let g : true ≡ false = sym e ∙ f in absurd cc
@@ -95,6 +98,7 @@ pub record HasFinished (mid new : Painter) (after : Hand) (cursor : Option (ℕ 
   pub shown : new.shown ≡ mid.shown
   pub known : new.is_known ≡ mid.is_known
   pub colours : new.colours ≡ mid.colours
+  pub window : new.window ≡ mid.window
   pub place : new.place ≡ place_after after.place cursor
   pub attr : new.attr ≡ after.attr
   pub shows : new.has_cursor ≡ Some (is_some cursor)
@@ -114,11 +118,12 @@ module _ {W : Type 0} {seen : W → Seen} {Region : ℕ → ℕ → Type 0} {scr
   paints cursor empty place attr held alike small on p q f = record {
     known = f.known ∙ p.known;
     colours = f.colours ∙ p.colours;
+    window = f.window ∙ p.window;
     changes = rw f.shown p.changes;
     bytes = p.text ++ cursor_bytes after.place old.has_cursor cursor;
     puts = puts-all hand.waiting.items after.waiting.items p.text (cursor_bytes after.place old.has_cursor cursor) empty p.puts q;
-    tells = λ d room right.
-        tells-then p.text (p.tells d held (rw (place, attr) right.knows) room right.shows)
+    tells = λ d covers room right.
+        tells-then p.text (p.tells d covers held (rw (place, attr) right.knows) room right.shows)
         (λ e law. record {
           after = with_cursor cursor e;
           is = told-cursor after.place old.has_cursor cursor e law.0.stands (rw law.1 right.cursor)
@@ -133,10 +138,30 @@ module _ {W : Type 0} {seen : W → Seen} {Region : ℕ → ℕ → Type 0} {scr
         });
   }
 
--- the cursor by another word
-pub paints-for : {W : Type 0} {seen : W → Seen} {Region : ℕ → ℕ → Type 0} {screen : Picture} {cursor wanted : Option (ℕ × ℕ)} {old new : Painter} {x z : Pen W} → cursor ≡ wanted
+-- the cursor by another word, where the window has all of the screen
+pub paints-for : {W : Type 0} {seen : W → Seen} {Region : ℕ → ℕ → Type 0} {screen : Picture} {cursor wanted : Option (ℕ × ℕ)} {old new : Painter} {x z : Pen W} → (Covers old.window old.shown → cursor ≡ wanted)
     → Paints seen Region screen cursor old new x z → Paints seen Region screen wanted old new x z
-paints-for {seen = seen} {Region = Region} {screen = screen} {old = old} {new = new} {x = x} {z = z} e p = subst (λ (q : Option (ℕ × ℕ)). Paints seen Region screen q old new x z) e p
+paints-for {Region = Region} {screen = screen} {new = new} same p = record {
+  known = p.known;
+  colours = p.colours;
+  window = p.window;
+  changes = p.changes;
+  bytes = p.bytes;
+  puts = p.puts;
+  tells = λ d covers room right. subst (λ (q : Option (ℕ × ℕ)). Becomes p.bytes d (Painted Region screen q new d)) (same covers) (p.tells d covers room right);
+}
+
+within-by : (p : ℕ × ℕ) (width height : ℕ) → (p.0 < width) × (p.1 < height) → (b : Bool) → IfSome (if b then Some p else None) (λ q. (q.0 < width) × (q.1 < height))
+within-by p width height on true = on
+within-by p width height on false = tt
+
+pub seen-within : (window : Size) (cursor : Option (ℕ × ℕ)) (width height : ℕ) → IfSome cursor (λ p. (p.0 < width) × (p.1 < height)) → IfSome (seen window cursor) (λ p. (p.0 < width) × (p.1 < height))
+seen-within window None width height on = on
+seen-within window (Some p) width height on = within-by p width height on (is_seen window p)
+
+pub seen-whole : (window : Size) (p : Picture) (cursor : Option (ℕ × ℕ)) → IfSome cursor (λ q. (q.0 < p.width) × (q.1 < p.height)) → Covers window p → seen window cursor ≡ cursor
+seen-whole window p None on covers = refl
+seen-whole window p (Some q) on covers = rw (seen-on window p q.0 q.1 (record { across = on.0; down = on.1 }) covers) refl
 
 -- ---- the begin
 
@@ -162,6 +187,14 @@ whole-has screen column row on = or_left _ _ (is_in-true (sized screen.width scr
 pub whole-rect : (r : Rect) (screen : Picture) → r ≡ sized screen.width screen.height → (column row : ℕ) → IsOn screen column row → has_cell (r ∷ []) column row ≡ true
 whole-rect r screen e column row on = subst (λ (q : Rect). has_cell (q ∷ []) column row ≡ true) (sym e) (whole-has screen column row on)
 
+pub whole-only : (r : Rect) (screen : Picture) → r ≡ sized screen.width screen.height → (column row : ℕ) → has_cell (r ∷ []) column row ≡ true → IsOn screen column row
+whole-only r screen same column row e = elim (or_split (is_in r (pos column) (pos row)) false e) [
+  | inl here ↦
+      let at = is_in_true (sized screen.width screen.height) (pos column) (pos row) (subst (λ (q : Rect). is_in q (pos column) (pos row) ≡ true) same here) in
+      record { across = omega (arith, ints, at.before_right); down = omega (arith, ints, at.before_bottom) }
+  | inr off ↦ absurd cc
+]
+
 -- a painter that knows nothing isn't wrong
 blind-right : {blind : Painter} (d : Display) → blind.is_known ≡ false → (blind.place ≡ None) × (blind.attr ≡ None) × (blind.has_cursor ≡ None) → IsRight blind d
 blind-right d unknown nothing = record {
@@ -170,21 +203,24 @@ blind-right d unknown nothing = record {
   cursor = rw nothing.2 tt;
 }
 
-module _ {W : Type 0} {seen : W → Seen} {screen : Picture} {cursor : Option (ℕ × ℕ)} {old blind new last : Painter} {x y z : Pen W} where
-  pub begins : IsAlike old.shown screen → blind.shown ≡ old.shown → blind.colours ≡ old.colours → blind.is_known ≡ false → (blind.place ≡ None) × (blind.attr ≡ None) × (blind.has_cursor ≡ None)
+module _ {W : Type 0} {seen : W → Seen} {screen : Picture} {cursor : Option (ℕ × ℕ)} (window : Size) {old blind new last : Painter} {x y z : Pen W} where
+  pub begins : blind.window ≡ window → last.window ≡ new.window → IsAlike old.shown screen → blind.shown ≡ old.shown → blind.colours ≡ old.colours → blind.is_known ≡ false → (blind.place ≡ None) × (blind.attr ≡ None) × (blind.has_cursor ≡ None)
       → last.shown ≡ new.shown → last.colours ≡ new.colours → last.is_known ≡ true → (last.place ≡ new.place) × (last.attr ≡ new.attr) × (last.has_cursor ≡ new.has_cursor) → Puts seen x y begin_bytes
       → (rects : List Rect) → ((column row : ℕ) → IsOn screen column row → has_cell rects column row ≡ true)
-      → Paints seen (λ column row. has_cell rects column row ≡ true) screen cursor blind new y z → BeginsScreen seen screen cursor old last x z
-  begins alike same still unknown nothing end held known kept opened rects all p = record {
+      → ((column row : ℕ) → has_cell rects column row ≡ true → IsOn screen column row)
+      → Paints seen (λ column row. has_cell rects column row ≡ true) screen cursor blind new y z → BeginsScreen seen screen cursor window old last x z
+  begins framed ends_framed alike same still unknown nothing end held known kept opened rects all only p = record {
     known = known;
     colours = held ∙ p.colours ∙ still;
+    window = ends_framed ∙ p.window ∙ framed;
     size = record { width = ap (λ (q : Picture). q.width) end ∙ p.changes.size.width ∙ ap (λ (q : Picture). q.width) same; height = ap (λ (q : Picture). q.height) end ∙ p.changes.size.height ∙ ap (λ (q : Picture). q.height) same };
     taken = λ column row on. rw end (p.changes.inside column row (rw same (on-alike alike on)) (all column row on));
     bytes = begin_bytes ++ p.bytes;
     puts = Puts-then opened p.puts;
-    tells = λ d room.
+    tells = λ d covers room.
+        let covers' : Covers blind.window blind.shown = record { across = omega (arith, covers.across, alike.width, ap (λ (q : Picture). q.width) same, ap (λ (v : Size). v.columns) framed); down = omega (arith, covers.down, alike.height, ap (λ (q : Picture). q.height) same, ap (λ (v : Size). v.rows) framed) } in
         let room' : HasSpace blind.shown (begun d) = rw same (record { across = omega (arith, alike.width, room.across); down = omega (arith, alike.height, room.down) }) in
-        let q = p.tells (begun d) room' (blind-right (begun d) unknown nothing) in
+        let q = p.tells (begun d) covers' room' (blind-right (begun d) unknown nothing) in
         record {
           after = q.after;
           is = told-++ (ground d) begin_bytes p.bytes ∙ ap (λ (t : Terminal). told t p.bytes) (told-begin d) ∙ q.is;
@@ -193,6 +229,7 @@ module _ {W : Type 0} {seen : W → Seen} {screen : Picture} {cursor : Option (�
               room = record { across = omega (arith, room.across, q.law.drawn.stays.columns); down = omega (arith, room.down, q.law.drawn.stays.rows) };
               each = λ column row on. q.law.drawn.shows.inside column row on (all column row on);
             });
+            beside = λ column row off. q.law.drawn.shows.outside column row (λ e. off (only column row e));
             right = record {
               shows = λ k. displays-by held (rw end (record {
                 room = record { across = omega (arith, room.across, q.law.drawn.stays.columns, p.changes.size.width, ap (λ (o : Picture). o.width) same, alike.width); down = omega (arith, room.down, q.law.drawn.stays.rows, p.changes.size.height, ap (λ (o : Picture). o.height) same, alike.height) };

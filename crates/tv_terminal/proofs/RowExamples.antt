@@ -6,7 +6,7 @@ use Rattle.tv_cells.specs.declared.rect.Point.{Point}
 use Rattle.tv_event.specs.declared.event.Event.TheVariants as events
 use Rattle.tv_event.specs.declared.event.Key.TheVariants as keys
 use Rattle.tv_terminal.specs.declared.action.Action.{Action}
-use Rattle.tv_terminal.specs.declared.action.Action.TheVariants.{Event, Quit, Reported}
+use Rattle.tv_terminal.specs.declared.action.Action.TheVariants.{Event, Quit, Ready, Resized}
 use Rattle.tv_terminal.specs.Table.{key_action, typed_char}
 use Rattle.tv_terminal.specs.Decoding.{Symbol, Byte, Pause, before, decode, heard_while, left}
 use Rattle.tv_terminal.specs.Rows.{csi, ss3, key_rows}
@@ -59,8 +59,9 @@ pasted = refl
 pasted_quit : decode (map Byte (csi "200~") ++ Byte 28 ∷ Pause ∷ Byte 13 ∷ []) ≡ Quit ∷ []
 pasted_quit = refl
 
--- the size of a terminal, in cells alone, and that it is ready
-reports : actions (csi "8;24;80t" ++ csi "4;600;800t" ++ csi "t" ++ csi "0n" ++ csi "3n") ≡ Reported ∷ Reported ∷ []
+-- the size of a terminal, in cells alone and as its corner, and that it is ready
+reports : actions (csi "8;24;80t" ++ csi "24;80R" ++ csi "4;600;800t" ++ csi "t" ++ csi "0n" ++ csi "3n")
+    ≡ Resized (record { columns = 80; rows = 24 }) ∷ Resized (record { columns = 80; rows = 24 }) ∷ Ready ∷ []
 reports = refl
 
 cut_by_quit : actions (csi "1;" ++ 28 ∷ []) ≡ Quit ∷ []
@@ -72,14 +73,14 @@ escape_and_quit = refl
 quit_by_number : actions (csi "92;5u") ≡ Quit ∷ []
 quit_by_number = refl
 
--- what means nothing: a report of the cursor, keys held with Shift, Ctrl or Alt, F13, pastes, answers of the terminal
+-- what means nothing: keys held with Shift, Ctrl or Alt, F13, pastes, answers of the terminal
 nothing : map actions
-    (csi "24;80R" ∷ csi "1;1R" ∷ csi "1;2A" ∷ csi "1;5C" ∷ csi "15;2~" ∷ csi "1;3P" ∷ csi "25~" ∷ csi "200~" ∷ csi "?1;2c"
+    (csi "1;1R" ∷ csi "1;2A" ∷ csi "1;5C" ∷ csi "15;2~" ∷ csi "1;3P" ∷ csi "25~" ∷ csi "200~" ∷ csi "?1;2c"
     ∷ csi "I" ∷ csi "O" ∷ csi ">0;276;0c" ∷ csi "97;5;1;1u" ∷ csi "E" ∷ csi "[F" ∷ ss3 "p" ∷ ss3 "2P"
     ∷ (27 ∷ 59 ∷ []) ∷ (27 ∷ 13 ∷ []) ∷ (27 ∷ 127 ∷ []) ∷ (27 ∷ 195 ∷ 169 ∷ [])
     ∷ (27 ∷ codes "]11;rgb:0000/0000/0000" ++ 7 ∷ []) ∷ (27 ∷ codes "]11;rgb:0000/0000/0000" ++ 27 ∷ 92 ∷ [])
     ∷ csi "000000000000000000000000000000A" ∷ (0 ∷ 29 ∷ 30 ∷ 31 ∷ []) ∷ [])
-    ≡ [] ∷ [] ∷ [] ∷ [] ∷ [] ∷ [] ∷ [] ∷ [] ∷ [] ∷ [] ∷ [] ∷ [] ∷ [] ∷ [] ∷ [] ∷ [] ∷ [] ∷ [] ∷ [] ∷ [] ∷ [] ∷ [] ∷ [] ∷ [] ∷ [] ∷ []
+    ≡ [] ∷ [] ∷ [] ∷ [] ∷ [] ∷ [] ∷ [] ∷ [] ∷ [] ∷ [] ∷ [] ∷ [] ∷ [] ∷ [] ∷ [] ∷ [] ∷ [] ∷ [] ∷ [] ∷ [] ∷ [] ∷ [] ∷ [] ∷ [] ∷ []
 unfolding char_width
 nothing = refl
 

@@ -13,7 +13,8 @@ use Rattle.tv_event.specs.declared.event.Event.TheVariants as events
 use Rattle.tv_event.specs.declared.event.Key.{Key}
 use Rattle.tv_event.specs.declared.event.Key.TheVariants as keys
 use Rattle.tv_terminal.specs.declared.action.Action.{Action}
-use Rattle.tv_terminal.specs.declared.action.Action.TheVariants.{Event, Quit, Reported}
+use Rattle.tv_terminal.specs.declared.action.Size.{Size}
+use Rattle.tv_terminal.specs.declared.action.Action.TheVariants.{Event, Quit, Ready, Resized}
 use Rattle.tv_terminal.specs.declared.numbers.Numbers.{Numbers}
 use Rattle.tv_terminal.specs.declared.numbers.Numbers.TheVariants.{One, Two, Three, Other}
 use Rattle.tv_terminal.specs.declared.reading.Reading.{Reading}
@@ -22,7 +23,7 @@ use Rattle.tv_terminal.specs.declared.reading.Kind.{Kind}
 use Rattle.tv_terminal.specs.declared.reading.Kind.TheVariants.{Keys, Mouse}
 use Rattle.tv_terminal.specs.Points.{IsMousePlace, HasPlaces}
 use Rattle.tv_terminal.specs.Sent.{IsSentAction, IsSentKey}
-use Rattle.tv_terminal.specs.Table.{key_action, typed_char, typed_code, ascii, alt, ctrl_coded, plain_code, coded, key_of_number, ctrl_key_of_number, lettered, bare, console, by_tilde, by_code, by_letter, size_report, ready_report, of_keys, near_place, point, is_left, held, mouse, of_mouse, old_mouse}
+use Rattle.tv_terminal.specs.Table.{key_action, typed_char, typed_code, ascii, alt, ctrl_coded, plain_code, coded, key_of_number, ctrl_key_of_number, lettered, bare, console, by_tilde, by_code, by_letter, corner_report, size_report, ready_report, of_keys, near_place, point, is_left, held, mouse, of_mouse, old_mouse}
 use Rattle.tv_terminal.specs.Sequences.{only, meaning, with_byte, numbers_from, old_report, console_from, bracketed, string_from, last_from, two_more, three_more, character, meaningless, is_heard, after_escape, reading_of}
 use Rattle.tv_terminal.specs.Decoding.{Listening, most, at_pause, given_as, given, anew_given, heard, heard_while, is_pasted}
 
@@ -40,8 +41,11 @@ none_sent = record { sent = tt }
 quit_sent : Sent (Some Quit)
 quit_sent = record { sent = tt }
 
-reported_sent : Sent (Some Reported)
-reported_sent = record { sent = tt }
+ready_is_sent : Sent (Some Ready)
+ready_is_sent = record { sent = tt }
+
+resized_is_sent : (size : Size) → Sent (Some (Resized size))
+resized_is_sent size = record { sent = tt }
 
 -- ---- keys
 
@@ -181,19 +185,26 @@ by_code_sent (Three x y z) = none_sent
 by_code_sent Other = none_sent
 
 size_sent : (numbers : Numbers) → Sent (size_report numbers)
-size_sent (Three n rows columns) = if_sent (n == 8) (λ _. reported_sent) none_sent
+size_sent (Three n rows columns) = if_sent (n == 8) (λ _. resized_is_sent (record { columns = columns; rows = rows })) none_sent
 size_sent _ = none_sent
 
 ready_sent : (numbers : Numbers) → Sent (ready_report numbers)
-ready_sent (One n) = if_sent (n == 0) (λ _. reported_sent) none_sent
+ready_sent (One n) = if_sent (n == 0) (λ _. ready_is_sent) none_sent
 ready_sent _ = none_sent
+
+corner_sent : (numbers : Numbers) → Sent (corner_report numbers)
+corner_sent (One n) = maybe_key_sent (by_letter (One n) 82) (letter_sent (One n) 82)
+corner_sent (Two row column) = if_sent (nat_lt 1 row) (λ _. resized_is_sent (record { columns = column; rows = row })) (maybe_key_sent (by_letter (Two row column) 82) (letter_sent (Two row column) 82))
+corner_sent (Three x y z) = none_sent
+corner_sent Other = none_sent
 
 of_keys_sent : (numbers : Numbers) (last : ℕ) → Sent (of_keys numbers last)
 of_keys_sent numbers last =
     if_sent (last == 126) (λ _. tilde_sent numbers)
     (if_sent (last == 117) (λ _. by_code_sent numbers)
     (if_sent (last == 116) (λ _. size_sent numbers)
-    (if_sent (last == 110) (λ _. ready_sent numbers) (maybe_key_sent (by_letter numbers last) (letter_sent numbers last)))))
+    (if_sent (last == 110) (λ _. ready_sent numbers)
+    (if_sent (last == 82) (λ _. corner_sent numbers) (maybe_key_sent (by_letter numbers last) (letter_sent numbers last))))))
 
 -- ---- the mouse
 

@@ -9,7 +9,7 @@ use Rattle.tv_terminal.specs.declared.action.Action.{Action}
 use Rattle.tv_terminal.specs.declared.reading.Reading.{Reading}
 use Rattle.tv_terminal.specs.declared.reading.Reading.TheVariants.{Unfinished, Whole}
 use Rattle.tv_terminal.specs.Sequences.{reading_of}
-use Rattle.tv_terminal.specs.Decoding.{Listening, Symbol, Byte, given_as, left_open_as, before, between, decode_after, heard_while, paste_begin, paste_end, pasting_after}
+use Rattle.tv_terminal.specs.Decoding.{Symbol, Byte, given_as, left_open_as, before, between, decode_after, heard_while, paste_begin, paste_end, pasting_after}
 use Rattle.tv_terminal.specs.Streams.{Lexeme, IsLexeme, actions_of, pasting_by, symbols_of}
 use Rattle.tv_terminal.proofs.DecodeLemmas.{before-append}
 use Rattle.tv_terminal.proofs.FrontLemmas.{front_unfinished}

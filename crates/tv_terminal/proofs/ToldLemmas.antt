@@ -288,7 +288,7 @@ module _ (k part : ℕ) (d : Display) (lt : k < 64) where
       rw (from, to, same, some, less) refl
 
 -- neither ESC nor BEL
-record IsPlain (c : ℕ) : Type 0 where
+pub record IsPlain (c : ℕ) : Type 0 where
   no_escape : c ≡ 27 → ⊥
   no_bell : c ≡ 7 → ⊥
 
@@ -349,7 +349,7 @@ told-four c d ge lt =
     ∙ told-last (c % 64) ((c / 262144 * 64 + c / 4096 % 64) * 64 + c / 64 % 64) d (omega arith)
     ∙ ap (λ (n : ℕ). ground (put n d)) e
 
-told-char : (c : ℕ) (d : Display) → c < 1114112 → IsPlain c → told (ground d) (encode_utf8 c) ≡ ground (put c d)
+pub told-char : (c : ℕ) (d : Display) → c < 1114112 → IsPlain c → told (ground d) (encode_utf8 c) ≡ ground (put c d)
 told-char c d few plain = elim (cases_lt c 128) [
   | inl lt ↦ told-one c d lt plain
   | inr ge ↦ elim (cases_lt c 2048) [
@@ -378,7 +378,7 @@ no-bell : (c : ℕ) → IsNarrow c → c ≡ 7 → ⊥
 unfolding char_width
 no-bell c narrow e = let h : char_width false 7 ≡ Some 1 = rw e at narrow in absurd cc
 
-narrow-plain : (c : ℕ) → IsNarrow c → IsPlain c
+pub narrow-plain : (c : ℕ) → IsNarrow c → IsPlain c
 narrow-plain c narrow = record { no_escape = no-escape c narrow; no_bell = no-bell c narrow }
 
 narrow-test : (c : ℕ) → IsNarrow c → is_narrow c ≡ true
@@ -449,7 +449,7 @@ told-colouring colours (Some a) attr d is lt =
     told-recolouring colours (a % 16 == attr % 16) (a / 16 == attr / 16) a attr d is
     (from-eq (a % 16) (attr % 16)) (from-eq (a / 16) (attr / 16)) lt
 
-put-within : (ch : ℕ) (d : Display) → IsNarrow ch → d.column < d.columns → put ch d ≡ record d {
+pub put-within : (ch : ℕ) (d : Display) → IsNarrow ch → d.column < d.columns → put ch d ≡ record d {
   cells = with_tile d.cells d.column d.row (record { ch = ch; front = d.front; back = d.back });
   column = d.column + 1;
 }

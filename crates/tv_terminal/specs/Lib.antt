@@ -13,6 +13,10 @@ pub mod Written
 pub mod Displays
 -- What is written, and what a terminal makes of it
 pub mod Writing
+-- A note in a row below a screen
+pub mod Notes
+-- Whether two screens are the same in a region
+pub mod Sameness
 -- The strips of a row
 pub mod Strips
 -- What is drawn of a picture

@@ -7,7 +7,7 @@ use Rattle.tv_event.specs.declared.event.Key.{Key}
 use Rattle.tv_event.specs.declared.event.Key.TheVariants as keys
 use Rattle.tv_terminal.specs.Points.{HasPlaces}
 use Rattle.tv_terminal.specs.declared.action.Action.{Action}
-use Rattle.tv_terminal.specs.declared.action.Action.TheVariants.{Event, Quit, Reported}
+use Rattle.tv_terminal.specs.declared.action.Action.TheVariants.{Event, Quit, Ready, Resized}
 use lib.Utf8.{scalar}
 
 -- Ctrl with A to Z, F1 to F12, Alt with A to Z or 0 to 9, a character that is no control character, or a key
@@ -31,4 +31,5 @@ IsSent (events.Broadcast command) = ⊥
 abbrev pub IsSentAction : Action → Type 0
 IsSentAction (Event event) = IsSent event
 IsSentAction Quit = Unit {0}
-IsSentAction Reported = Unit {0}
+IsSentAction Ready = Unit {0}
+IsSentAction (Resized size) = Unit {0}

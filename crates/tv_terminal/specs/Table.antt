@@ -9,7 +9,7 @@ use Rattle.tv_event.specs.declared.event.Event.TheVariants as events
 use Rattle.tv_event.specs.declared.event.Key.{Key}
 use Rattle.tv_event.specs.declared.event.Key.TheVariants as keys
 use Rattle.tv_terminal.specs.declared.action.Action.{Action}
-use Rattle.tv_terminal.specs.declared.action.Action.TheVariants.{Event, Quit, Reported}
+use Rattle.tv_terminal.specs.declared.action.Action.TheVariants.{Event, Quit, Ready, Resized}
 use Rattle.tv_terminal.specs.declared.numbers.Numbers.{Numbers}
 use Rattle.tv_terminal.specs.declared.numbers.Numbers.TheVariants.{One, Two, Three, Other}
 use lib.Utf8.{scalar}
@@ -126,14 +126,21 @@ by_letter (One n) last = if n == 0 then bare last else if n == 1 then lettered l
 by_letter (Two n held) last = if nat_le n 1 && nat_le held 1 then lettered last else None
 by_letter _ last = None
 
+-- ESC [ row ; column R, where its cursor stands, which is in its corner when it is asked for its size. F3 has row 1
+abbrev pub corner_report : Numbers → Option Action
+corner_report (Two row column) =
+    if nat_lt 1 row then Some (Resized (record { columns = column; rows = row }))
+    else option_map key_action (by_letter (Two row column) 82)
+corner_report numbers = option_map key_action (by_letter numbers 82)
+
 -- ESC [ 8 ; rows ; columns t, the size of the terminal in cells
 abbrev pub size_report : Numbers → Option Action
-size_report (Three n rows columns) = if n == 8 then Some Reported else None
+size_report (Three n rows columns) = if n == 8 then Some (Resized (record { columns = columns; rows = rows })) else None
 size_report _ = None
 
 -- ESC [ 0 n, that it is ready
 abbrev pub ready_report : Numbers → Option Action
-ready_report (One n) = if n == 0 then Some Reported else None
+ready_report (One n) = if n == 0 then Some Ready else None
 ready_report _ = None
 
 abbrev pub of_keys : Numbers → ℕ → Option Action
@@ -142,6 +149,7 @@ of_keys numbers last =
     else if last == 117 then by_code numbers
     else if last == 116 then size_report numbers
     else if last == 110 then ready_report numbers
+    else if last == 82 then corner_report numbers
     else option_map key_action (by_letter numbers last)
 
 -- a column or a row, which a terminal counts from 1. What lies beyond is kept near

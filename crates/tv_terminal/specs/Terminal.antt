@@ -77,9 +77,18 @@ cursor_placed row column d = record d { column = cell_number d.columns column; r
 abbrev pub moved_right : ℕ → Display → Display
 moved_right n d = record d { column = min (d.column + max n 1) (d.columns - 1) }
 
+-- a space in the colours to come
+abbrev pub space_in : Display → Tile
+space_in d = record { ch = 32; front = d.front; back = d.back }
+
 -- all cells are spaces
 abbrev pub cleared : Display → Display
-cleared d = record d { cells = λ _ _. record { ch = 32; front = d.front; back = d.back } }
+cleared d = record d { cells = λ _ _. space_in d }
+
+-- and those of the cursor's row from the cursor on
+abbrev pub row_cleared : Display → Display
+row_cleared d =
+    record d { cells = λ x y. if (y == d.row) && nat_le d.column x then space_in d else d.cells x y }
 
 -- a number of `m`: 0 for the plain colours, eight for the front and eight for the ground behind, and the same
 -- bright
@@ -162,7 +171,8 @@ abbrev pub ground : Display → Terminal
 ground d = in_mode Ground d
 
 -- the last byte of a sequence: H (72) places the cursor, C (67) moves it right, m (109) sets colours, J (74)
--- clears, and with a `?` before the number h (104) and l (108) switch a mode
+-- clears the screen and K (75) the rest of a row, and with a `?` before the number h (104) and l (108) switch a
+-- mode
 abbrev pub after_sequence : ℕ → Bool → ℕ → List ℕ → Display → Display
 after_sequence c true last before d =
     if c == 104 then switched last true d else if c == 108 then switched last false d else lost d
@@ -170,6 +180,7 @@ after_sequence c false last [] d =
     if c == 109 then colour_set last d
     else if c == 67 then moved_right last d
     else if (c == 74) && (last == 2) then cleared d
+    else if (c == 75) && (last == 0) then row_cleared d
     else lost d
 after_sequence c false last (first ∷ before) d =
     if c == 109 then colours_set (reverse (last ∷ first ∷ before)) d

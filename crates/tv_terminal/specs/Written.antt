@@ -7,6 +7,7 @@ use Rattle.tv_cells.specs.Layers.{is_in}
 use Rattle.tv_cells.specs.Rectangle.{sized}
 use Rattle.tv_cells.specs.declared.rect.Point.{Point}
 use Rattle.tv_terminal.specs.Terminal.{Colour, Own, Fixed}
+use Rattle.tv_terminal.specs.declared.action.Size.{Size}
 use Rattle.tv_terminal.specs.declared.colour.Colours.{Colours}
 use Rattle.tv_terminal.specs.declared.colour.Colours.TheVariants.{Sixteen, Indexed}
 
@@ -109,6 +110,15 @@ abbrev pub cursor_on : (width height : ℕ) → Option Point → Option (ℕ × 
 cursor_on width height None = None
 cursor_on width height (Some p) =
     if is_in (sized width height) p.x p.y then Some (int_gap (pos 0) p.x, int_gap (pos 0) p.y) else None
+
+-- a place lies in the window, from the top left corner on
+abbrev pub is_seen : Size → (place : ℕ × ℕ) → Bool
+is_seen window place = nat_lt place.0 window.columns && nat_lt place.1 window.rows
+
+-- where it lies in it
+abbrev pub seen : Size → Option (ℕ × ℕ) → Option (ℕ × ℕ)
+seen window None = None
+seen window (Some place) = if is_seen window place then Some place else None
 
 -- it shows, or is hidden; nothing is written where it is known to be so
 abbrev pub showing : (was : Option Bool) (is_on : Bool) → List ℕ

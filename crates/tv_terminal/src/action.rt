@@ -10,6 +10,15 @@ pub enum Action {
     Event(Event),
     /// Ctrl-\, which is no key of the language: the user wants to leave.
     Quit,
-    /// The terminal reports that it is ready, or its size, as it does when it is asked. What it shows may be lost.
-    Reported,
+    /// The terminal reports that it is ready, as it does when it is asked. What it shows may be lost.
+    Ready,
+    /// The terminal reports its size, as it does when it is asked. What it shows may be lost.
+    Resized(Size),
+}
+
+/// The size of a terminal in cells, as the terminal tells it.
+#[derive(Clone, Copy, Debug, PartialEq, Eq)]
+pub struct Size {
+    pub columns: u32,
+    pub rows: u32,
 }

@@ -117,8 +117,8 @@ impl Hand {
         self.place = Some((column + 1, row));
     }
 
-    // Adds what brings the cursor to a place.
-    fn go(&mut self, column: u32, row: u32)
+    /// Adds what brings the cursor to a place.
+    pub(crate) fn go(&mut self, column: u32, row: u32)
         requires room { array_vec_len self.old.waiting + 10 ≤ 256 }
         requires small { (column < 999) × (row < 999) }
         ensures bytes { self.new.waiting.items ≡ self.old.waiting.items ++ going self.old.place column row }

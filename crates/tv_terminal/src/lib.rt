@@ -9,15 +9,17 @@ mod colour;
 mod decoder;
 mod element;
 mod hand;
+mod note;
 mod numbers;
 mod painter;
 mod reading;
+mod sameness;
 mod span;
 mod strip;
 mod svg;
 mod table;
 
-pub use action::Action;
+pub use action::{Action, Size};
 pub use bell::ring;
 pub use colour::Colours;
 pub use decoder::Decoder;

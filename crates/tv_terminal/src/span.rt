@@ -5,6 +5,14 @@ ghost use Rattle.tv_terminal.specs.Written.{cursor_on};
 
 use tv_cells::{Point, Rect};
 
+/// The cells of a row from column `left` on and before `right`.
+#[derive(Clone, Copy)]
+pub(crate) struct Span {
+    pub(crate) row: u32,
+    pub(crate) left: u32,
+    pub(crate) right: u32,
+}
+
 /// Returns the first place of a line of this length that lies between two coordinates, and the first behind these.
 pub(crate) fn visible(from: &i32, to: &i32, length: u32) -> (u32, u32)
     ensures within { (result.0 ≤ result.1) × (result.1 ≤ length) }

@@ -1,9 +1,9 @@
 //! The table: what whole sequences mean.
 
 ghost use Rattle.std.specs.Prelude.{◌≡◌, ◌<◌, option_map, pos};
-ghost use Rattle.tv_terminal.specs.Table.{key_action, typed_char, typed_code, ascii, alt, ctrl_coded, plain_code, coded, key_of_number, ctrl_key_of_number, lettered, bare, console, by_tilde, by_code, by_letter, size_report, ready_report, of_keys, near_place, point, is_left, held, mouse, of_mouse, old_mouse};
+ghost use Rattle.tv_terminal.specs.Table.{alt, ascii, bare, by_code, by_letter, by_tilde, coded, console, corner_report, ctrl_coded, ctrl_key_of_number, held, is_left, key_action, key_of_number, lettered, mouse, near_place, of_keys, of_mouse, old_mouse, plain_code, point, ready_report, size_report, typed_char, typed_code};
 
-use crate::action::Action;
+use crate::action::{Action, Size};
 use crate::numbers::Numbers;
 use tv_cells::{Point, is_narrow};
 use tv_event::{Event, Key};
@@ -211,12 +211,22 @@ fn by_letter(numbers: Numbers, last: u8) -> Option<Key>
     }
 }
 
+// The report of where a terminal's cursor stands, which is in its corner when it is asked for its size.
+fn corner_report(numbers: Numbers) -> Option<Action>
+    ensures { result ≡ corner_report numbers }
+{
+    match numbers {
+        Numbers::Two(rows, columns) if rows > 1 => Some(Action::Resized(Size { columns, rows })),
+        _ => key_action_of(by_letter(numbers, b'R')),
+    }
+}
+
 // The report of a terminal's size in cells.
 fn size_report(numbers: Numbers) -> Option<Action>
     ensures { result ≡ size_report numbers }
 {
     match numbers {
-        Numbers::Three(8, _rows, _columns) => Some(Action::Reported),
+        Numbers::Three(8, rows, columns) => Some(Action::Resized(Size { columns, rows })),
         _ => None,
     }
 }
@@ -226,7 +236,7 @@ fn ready_report(numbers: Numbers) -> Option<Action>
     ensures { result ≡ ready_report numbers }
 {
     match numbers {
-        Numbers::One(0) => Some(Action::Reported),
+        Numbers::One(0) => Some(Action::Ready),
         _ => None,
     }
 }
@@ -240,6 +250,7 @@ pub(crate) fn of_keys(numbers: Numbers, last: u8) -> Option<Action>
         b'u' => by_code(numbers),
         b't' => size_report(numbers),
         b'n' => ready_report(numbers),
+        b'R' => corner_report(numbers),
         _ => key_action_of(by_letter(numbers, last)),
     }
 }

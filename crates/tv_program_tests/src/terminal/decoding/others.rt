@@ -3,7 +3,7 @@
 use super::gives;
 use tv_cells::Point;
 use tv_event::{Event, Key};
-use tv_terminal::Action;
+use tv_terminal::{Action, Size};
 
 const fn key(key: Key) -> Action {
     Action::Event(Event::Key(key))
@@ -56,18 +56,23 @@ fn pastes(rt: HostRuntime) {
     assert!(rt; gives(b"\x1b[201~\x1b[200~\r\x1c\r", &[Action::Quit]));
 }
 
+const SIZE: Size = Size {
+    columns: 80,
+    rows: 24,
+};
+
 #[test]
 fn reports(rt: HostRuntime) {
     assert!(rt;
         gives(
-            b"\x1b[8;24;80t\x1b[4;600;800t\x1b[8;24t\x1b[3n\x1b[0n",
-            &[Action::Reported, Action::Reported]
+            b"\x1b[8;24;80t\x1b[4;600;800t\x1b[24;80R\x1b[8;24t\x1b[3n\x1b[0n",
+            &[Action::Resized(SIZE), Action::Resized(SIZE), Action::Ready]
         )
     );
 }
 
 const UNHEARD: [&str; 13] = [
-    "\x1b[24;80R",
+    "\x1b[1;1R",
     "\x1b[1;2A",
     "\x1b[200~",
     "\x1b[?1;2c",
