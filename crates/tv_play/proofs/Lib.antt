@@ -9,3 +9,5 @@ pub mod PlayerLemmas
 pub mod PlayLemmas
 pub mod LiveLemmas
 pub mod TapedLemmas
+pub mod RefusalLemmas
+pub mod MonitorLemmas

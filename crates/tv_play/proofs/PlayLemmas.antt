@@ -5,7 +5,7 @@ use Rattle.std.proofs.lemmas.List.{append-nil, length-map, length-take-le}
 use Rattle.std.proofs.lemmas.List.Elements.{All-nil}
 use Rattle.tv_terminal.specs.Written.{end_bytes}
 use Rattle.tv_terminal.specs.declared.colour.Colours.{Colours}
-use Rattle.tv_terminal.specs.declared.painter.Painter.{Painter}
+use Rattle.tv_play.specs.declared.monitor.Monitor.{Monitor}
 use Rattle.std.specs.Prelude.{MatchResult}
 use Rattle.tv_io.specs.Pen.{PutsBy}
 use Rattle.tv_io.specs.declared.writer.WriteFailed.{WriteFailed}
@@ -23,7 +23,7 @@ use Rattle.tv_play.specs.declared.parting.Parting.{Parting}
 use Rattle.tv_play.specs.declared.parting.Parting.TheVariants as partings
 use Rattle.tv_play.specs.declared.parting.PlayFault.{PlayFault}
 use Rattle.tv_play.specs.declared.parting.PlayFault.TheVariants as faults
-use Rattle.tv_play.proofs.ShownLemmas.{put-still, restores}
+use Rattle.tv_play.proofs.ShownLemmas.{put-still, restores, shown-still}
 use Rattle.tv_play.specs.declared.pieces.Piece.{Piece}
 use Rattle.tv_play.specs.declared.pieces.Piece.TheVariants as pieces
 use Rattle.tv_terminal.specs.Decoding.{Symbol, Byte, Pause}
@@ -66,7 +66,7 @@ taped-none a false e = Takes-none a
 -- a run that was begun: it ended before anything was read, or it goes on
 pub first-turns : (s : Session) (from now : Outside) (Left : Session → Type 0) (answer : Bool) → answer ≡ is_finished s → (written : Result (Unit {0}) WriteFailed) (stop torn : Bool) → now.stopped ≡ stop → now.torn ≡ torn
     → MatchResult written (λ _. Takes from.log now.log (log_text s.desc s.state.log)) (λ _. Cuts from.log now.log (log_text s.desc s.state.log))
-    → HasBeenShown from.painter.colours s [] from.screen now.screen now.stopped now.painter → Left (quiet s) → IsTaped s [] from now → TurnsTo s [] from now Left (outcome_of answer written stop torn)
+    → HasBeenShown from.monitor.painter.colours s [] from.screen now.screen now.stopped now.monitor → Left (quiet s) → IsTaped s [] from now → TurnsTo s [] from now Left (outcome_of answer written stop torn)
 first-turns s from now Left answer is (Err failed) stop torn same alike cut shown left taped = record { actions = []; rest = []; heard = heard-none s; shown = shown; left = left; taped = taped; ended = log-first-cut s cut }
 first-turns s from now Left answer is (Ok written) true torn same alike takes shown left taped = record { actions = []; rest = []; heard = heard-none s; shown = shown; left = left; taped = taped; ended = (log-first s takes, same) }
 first-turns s from now Left answer is (Ok written) false true same alike takes shown left taped = record { actions = []; rest = []; heard = heard-none s; shown = shown; left = left; taped = taped; ended = (log-first s takes, same, alike) }
@@ -84,9 +84,6 @@ first-turns s from now Left false is (Ok written) false false same alike takes s
 
 -- ---- the loop
 
-shown-still : {colours : Colours} (s : Session) (actions : List Action) (from screen screen' : Seen) (stop stop' : Bool) (painter : Painter) → HasBeenShown colours s actions from screen stop painter → PutsBy screen stop screen' stop' [] → HasBeenShown colours s actions from screen' stop' painter
-shown-still s actions from screen screen' stop stop' painter shown put = record { frames = shown.frames; same = shown.same; shows = shown.shows; put = put-still from screen screen' stop stop' (concat shown.frames) shown.put put; taken = shown.taken; right = shown.right }
-
 -- what was written is passed on
 pub passed-on : {a b c : Seen} (text : List ℕ) → Takes a b text → IsPassedOn b c → Takes a c text
 passed-on {a} {b} {c} text p same = subst (Takes a c) (append-nil text) (Takes-then text [] p (Takes-passed same))
@@ -95,40 +92,40 @@ held-back : {a b c : Seen} (text : List ℕ) → Takes a b text → IsHeldBack b
 held-back {a} {b} {c} text p held = subst (Cuts a c) (append-nil text) (Cuts-after text [] p (Cuts-held held))
 
 -- what was written was passed on, or the run is over
-pub turned-passed : (s : Session) (symbols : List Symbol) (from : Outside) (log log' screen screen' tape tape' : Seen) (stop stop' torn torn' : Bool) (painter : Painter) (Left : Session → Type 0) (passed : Result (Unit {0}) WriteFailed) → PassesOn log log' passed → PutsBy screen stop screen' stop' [] → PutsBy tape torn tape' torn' []
-    → IsPlaying s symbols from (outside log screen tape stop torn painter) Left → TurnsTo s symbols from (outside log' screen' tape' stop' torn' painter) Left (outcome_of false passed stop' torn')
-turned-passed s symbols from log log' screen screen' tape tape' stop stop' torn torn' painter Left (Err failed) held put puts p = record {
+pub turned-passed : (s : Session) (symbols : List Symbol) (from : Outside) (log log' screen screen' tape tape' : Seen) (stop stop' torn torn' : Bool) (monitor : Monitor) (Left : Session → Type 0) (passed : Result (Unit {0}) WriteFailed) → PassesOn log log' passed → PutsBy screen stop screen' stop' [] → PutsBy tape torn tape' torn' []
+    → IsPlaying s symbols from (outside log screen tape stop torn monitor) Left → TurnsTo s symbols from (outside log' screen' tape' stop' torn' monitor) Left (outcome_of false passed stop' torn')
+turned-passed s symbols from log log' screen screen' tape tape' stop stop' torn torn' monitor Left (Err failed) held put puts p = record {
   actions = p.actions;
   rest = [];
   heard = p.heard;
-  shown = shown-still s p.actions from.screen screen screen' stop stop' painter p.shown put;
+  shown = shown-still s p.actions from.screen screen screen' stop stop' monitor p.shown put;
   left = p.performs.left;
   taped = put-still from.tape tape tape' torn torn' (script_text (events_in s.desc p.actions)) p.taped puts;
   ended = held-back (output s (script_of s.desc p.actions)) p.performs.written held;
 }
-turned-passed s symbols from log log' screen screen' tape tape' stop true torn torn' painter Left (Ok done) passed put puts p = record {
+turned-passed s symbols from log log' screen screen' tape tape' stop true torn torn' monitor Left (Ok done) passed put puts p = record {
   actions = p.actions;
   rest = [];
   heard = p.heard;
-  shown = shown-still s p.actions from.screen screen screen' stop true painter p.shown put;
+  shown = shown-still s p.actions from.screen screen screen' stop true monitor p.shown put;
   left = p.performs.left;
   taped = put-still from.tape tape tape' torn torn' (script_text (events_in s.desc p.actions)) p.taped puts;
   ended = (passed-on (output s (script_of s.desc p.actions)) p.performs.written passed, refl);
 }
-turned-passed s symbols from log log' screen screen' tape tape' stop false torn true painter Left (Ok done) passed put puts p = record {
+turned-passed s symbols from log log' screen screen' tape tape' stop false torn true monitor Left (Ok done) passed put puts p = record {
   actions = p.actions;
   rest = [];
   heard = p.heard;
-  shown = shown-still s p.actions from.screen screen screen' stop false painter p.shown put;
+  shown = shown-still s p.actions from.screen screen screen' stop false monitor p.shown put;
   left = p.performs.left;
   taped = put-still from.tape tape tape' torn true (script_text (events_in s.desc p.actions)) p.taped puts;
   ended = (passed-on (output s (script_of s.desc p.actions)) p.performs.written passed, refl, refl);
 }
-turned-passed s symbols from log log' screen screen' tape tape' stop false torn false painter Left (Ok done) passed put puts p = record {
+turned-passed s symbols from log log' screen screen' tape tape' stop false torn false monitor Left (Ok done) passed put puts p = record {
   actions = p.actions;
   heard = p.heard;
   goes = p.goes;
-  shown = shown-still s p.actions from.screen screen screen' stop false painter p.shown put;
+  shown = shown-still s p.actions from.screen screen screen' stop false monitor p.shown put;
   performs = record { written = passed-on (output s (script_of s.desc p.actions)) p.performs.written passed; left = p.performs.left };
   taped = put-still from.tape tape tape' torn false (script_text (events_in s.desc p.actions)) p.taped puts;
   going = refl;
@@ -295,7 +292,7 @@ module _ (s : Session) (input left : Heard) (from now : Outside) (last : Seen) (
   abbrev pub ended : (log tape : Seen) → Ports
   ended log tape = record { input = left; log = log; screen = last; tape = tape }
 
-  pub plays-parted : (log tape : Seen) (torn : Bool) (parting : Parting) (passed : Result (Unit {0}) WriteFailed) (result : Result Parting PlayFault) → result ≡ told_with parting passed stop torn → HasRun s input left from now Left (Ok parting) → PassesOn now.log log passed → PutsBy now.tape now.torn tape torn [] → (torn ≡ false → tape.kept ≡ []) → Plays from.painter.colours s begun (ended log tape) Left result
+  pub plays-parted : (log tape : Seen) (torn : Bool) (parting : Parting) (passed : Result (Unit {0}) WriteFailed) (result : Result Parting PlayFault) → result ≡ told_with parting passed stop torn → HasRun s input left from now Left (Ok parting) → PassesOn now.log log passed → PutsBy now.tape now.torn tape torn [] → (torn ≡ false → tape.kept ≡ []) → Plays from.monitor.painter.colours s begun (ended log tape) Left result
   plays-parted log tape torn parting passed result is run passes puts clear = record {
     symbols = run.symbols;
     actions = run.actions;
@@ -310,7 +307,7 @@ module _ (s : Session) (input left : Heard) (from now : Outside) (last : Seen) (
         tape torn (put-still from.tape now.tape tape now.torn torn (script_text (events_in s.desc run.actions)) run.taped puts) clear log parting passed run.came passes);
   }
 
-  pub plays-broken : (fault : PlayFault) → HasRun s input left from now Left (Err fault) → Plays from.painter.colours s begun (ended now.log now.tape) Left (Err fault)
+  pub plays-broken : (fault : PlayFault) → HasRun s input left from now Left (Err fault) → Plays from.monitor.painter.colours s begun (ended now.log now.tape) Left (Err fault)
   plays-broken fault run = record {
     symbols = run.symbols;
     actions = run.actions;

@@ -1,7 +1,6 @@
 -- What comes of a thing that the user did.
 use Rattle.std.proofs.Common.{◌≡◌, Bool, true, false, List, [], ◌∷◌, ◌++◌, Option, None, Result, Ok, Err, refl, sym, ap, subst, ◌∙◌}
 use Rattle.tv_terminal.specs.declared.colour.Colours.{Colours}
-use Rattle.tv_terminal.specs.declared.painter.Painter.{Painter}
 use Rattle.tv_cells.specs.declared.rect.Rect.{Rect}
 use Rattle.tv_event.specs.declared.event.Event.{Event as Happening}
 use Rattle.std.specs.Prelude.{MatchResult}
@@ -18,7 +17,9 @@ use Rattle.tv_script.specs.Tapes.{event_line, script_text, script_with}
 use Rattle.tv_play.specs.Edge.{brought}
 use Rattle.tv_play.specs.Ends.{IsTakenFor, events_in, is_finished, is_leaving, reached, script_of}
 use Rattle.tv_play.specs.declared.ends.Step.TheVariants as steps
-use Rattle.tv_play.specs.Shown.{HasSize, KeepsScreen}
+use Rattle.tv_play.specs.Notes.{IsMonitorOf}
+use Rattle.tv_play.specs.Shown.{KeepsScreen}
+use Rattle.tv_play.specs.declared.monitor.Monitor.{Monitor}
 use Rattle.tv_play.specs.Steps.{HasPlayedOut, IsHeard, IsPlaying, HasBeenShown, Outside, TurnsTo, outcome_of, outside}
 use Rattle.tv_play.specs.declared.parting.Parting.TheVariants as partings
 use Rattle.tv_play.specs.declared.parting.Parting.{Parting}
@@ -31,15 +32,15 @@ use Rattle.tv_terminal.specs.declared.action.Action.{Action}
 use Rattle.tv_terminal.specs.declared.action.Action.TheVariants.{Event}
 
 -- an event and the taking of a log leave the size of the screen
-pub size-stepped : (t : Session) (e : Happening) (painter : Painter) → HasSize t painter → HasSize (stepped t e) painter
-size-stepped t e painter size = record { width = size.width; height = size.height }
+pub size-stepped : (t : Session) (e : Happening) (monitor : Monitor) → IsMonitorOf t.desc monitor → IsMonitorOf (stepped t e).desc monitor
+size-stepped t e monitor is = record { width = is.width; height = is.height; window = is.window; filled = is.filled; low = is.low }
 
-pub size-quiet : (t : Session) (painter : Painter) → HasSize t painter → HasSize (quiet t) painter
-size-quiet t painter size = record { width = size.width; height = size.height }
+pub size-quiet : (t : Session) (monitor : Monitor) → IsMonitorOf t.desc monitor → IsMonitorOf (quiet t).desc monitor
+size-quiet t monitor is = record { width = is.width; height = is.height; window = is.window; filled = is.filled; low = is.low }
 
 -- what an event changes of a screen, whose log was taken or not
 pub keeps-loud : {rects : List Rect} (t : Session) (e : Happening) → KeepsScreen rects (quiet t) (stepped (quiet t) e) → KeepsScreen rects t (stepped t e)
-keeps-loud {rects} t e keeps = record { each = λ column row on apart. keeps.each column row (record { across = on.across; down = on.down }) apart }
+keeps-loud {rects} t e keeps = record { within = λ column row here. let at = keeps.within column row here in record { across = at.across; down = at.down }; each = λ column row on apart. keeps.each column row (record { across = on.across; down = on.down }) apart }
 
 -- an event's line was put after those of the events before it
 taped-event : (a b c : Seen) (t u : Bool) (events : List Happening) (e : Happening) → PutsBy a false b t (script_text events) → PutsBy b t c u (event_line e) → PutsBy a false c u (script_text (events ++ e ∷ []))
@@ -68,9 +69,9 @@ module _ (s : Session) (symbols next : List Symbol) (from old : Outside) (Old : 
   }
 
   -- the screen was painted anew, and the writer failed or didn't
-  module _ (a : Action) (taken : IsTakenFor s.desc a steps.Refresh) (means : decode next ≡ decode symbols ++ a ∷ []) (screen : Seen) (painter : Painter) where
+  module _ (a : Action) (taken : IsTakenFor s.desc a steps.Refresh) (means : decode next ≡ decode symbols ++ a ∷ []) (screen : Seen) (monitor : Monitor) where
     abbrev later : Bool → Outside
-    later stop = outside old.log screen old.tape stop old.torn painter
+    later stop = outside old.log screen old.tape stop old.torn monitor
 
     same-events : events_in s.desc (p.actions ++ a ∷ []) ≡ events_in s.desc p.actions
     same-events = events-refresh s.desc p.actions a taken.1
@@ -84,7 +85,7 @@ module _ (s : Session) (symbols next : List Symbol) (from old : Outside) (Old : 
     left-still : Old (after s (script_of s.desc (p.actions ++ a ∷ [])))
     left-still = subst (λ x. Old (after s (script_with x))) (sym same-events) p.performs.left
 
-    pub refreshes : (stop : Bool) → HasBeenShown from.painter.colours s (p.actions ++ a ∷ []) from.screen screen stop painter
+    pub refreshes : (stop : Bool) → HasBeenShown from.monitor.painter.colours s (p.actions ++ a ∷ []) from.screen screen stop monitor
         → (torn : Bool) → old.torn ≡ torn → TurnsTo s next from (later stop) Old (outcome_of false (Ok tt) stop torn)
     refreshes true shown torn same = record {
       actions = p.actions ++ a ∷ [];
@@ -109,7 +110,7 @@ module _ (s : Session) (symbols next : List Symbol) (from old : Outside) (Old : 
 
   -- an event was performed, brought to the screen
   module _ (now : Outside) (New : Session → Type 0) (told e : Happening) (comes : e ≡ brought s.desc told) (taken : IsTakenFor s.desc (Event told) (steps.Perform told)) (means : decode next ≡ decode symbols ++ Event told ∷ []) (stands : (t : Session) → Old t → New (quiet (stepped t e)))
-      (shown : (colours : Colours) (actions : List Action) (from : Seen) → Old (quiet (reached s actions)) → HasBeenShown colours s actions from old.screen old.stopped old.painter → HasBeenShown colours s (actions ++ Event told ∷ []) from now.screen now.stopped now.painter)
+      (shown : (colours : Colours) (actions : List Action) (from : Seen) → Old (quiet (reached s actions)) → HasBeenShown colours s actions from old.screen old.stopped old.monitor → HasBeenShown colours s (actions ++ Event told ∷ []) from now.screen now.stopped now.monitor)
       (tapes : PutsBy old.tape old.torn now.tape now.torn (event_line e)) where
     abbrev more : List Action
     more = p.actions ++ Event told ∷ []
@@ -126,8 +127,8 @@ module _ (s : Session) (symbols next : List Symbol) (from old : Outside) (Old : 
     left : New (after s (script_of s.desc more))
     left = subst (λ x. New (after s (script_with x))) (sym pushed) (left-event New s (events_in s.desc p.actions) e (stands (quiet (reached s p.actions)) stands-before))
 
-    shows : HasBeenShown from.painter.colours s more from.screen now.screen now.stopped now.painter
-    shows = shown from.painter.colours p.actions from.screen stands-before p.shown
+    shows : HasBeenShown from.monitor.painter.colours s more from.screen now.screen now.stopped now.monitor
+    shows = shown from.monitor.painter.colours p.actions from.screen stands-before p.shown
 
     finished-by : (answer b : Bool) → ((t : Session) → Old t → answer ≡ is_finished (stepped t e)) → answer ≡ b → is_finished (reached s more) ≡ b
     finished-by answer b is same = ap is_finished (reached-perform s p.actions told taken.2 ∙ ap (stepped (reached s p.actions)) (sym comes)) ∙ sym (is (quiet (reached s p.actions)) stands-before) ∙ same

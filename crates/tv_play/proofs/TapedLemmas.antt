@@ -22,7 +22,7 @@ use Rattle.tv_terminal.specs.Decoding.{Listening, Symbol, Byte, Pause, at_pause,
 use Rattle.tv_terminal.specs.Points.{HasPlaces, IsMousePlace}
 use Rattle.tv_terminal.specs.Sent.{IsSent, IsSentAction, IsSentKey}
 use Rattle.tv_terminal.specs.declared.action.Action.{Action}
-use Rattle.tv_terminal.specs.declared.action.Action.TheVariants.{Event, Quit, Reported}
+use Rattle.tv_terminal.specs.declared.action.Action.TheVariants.{Event, Quit, Ready, Resized}
 
 -- ---- what is heard was sent
 
@@ -106,7 +106,8 @@ module _ (d : Desc) (columns : pos 1 ≤ℤ d.width) (rows : pos 1 ≤ℤ d.heig
   one-sayable true action rest sent all = all
   one-sayable false (Event e) rest sent all = (brought-sayable e sent, all)
   one-sayable false Quit rest sent all = all
-  one-sayable false Reported rest sent all = all
+  one-sayable false Ready rest sent all = all
+  one-sayable false (Resized size) rest sent all = all
 
   events-sayable : (actions : List Action) → AllByRecursion IsSentAction actions → AllByRecursion (IsSayable d.width d.height) (events_in d actions)
   events-sayable [] sent = tt

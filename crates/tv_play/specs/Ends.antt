@@ -1,5 +1,5 @@
 -- What comes of an action in a terminal, and what ends a run there.
-use Rattle.std.specs.Prelude.{◌≡◌, ℕ, ◌+◌, Bool, true, false, not, ◌&&◌, ◌||◌, if◌then◌else◌, List, [], ◌∷◌}
+use Rattle.std.specs.Prelude.{◌≡◌, Bool, true, false, not, ◌&&◌, ◌||◌, if◌then◌else◌, List, [], ◌∷◌}
 use Rattle.std.specs.Prelude.{flat_map, is_some, length, ◌==◌}
 use Rattle.std.specs.List.{list_any}
 use Rattle.tv_event.specs.declared.event.Event.{Event as Happening}
@@ -18,7 +18,7 @@ use Rattle.tv_play.specs.declared.ends.Step.{Step}
 use Rattle.tv_play.specs.declared.ends.Step.TheVariants as steps
 use Rattle.tv_script.specs.Tapes.{script_with}
 use Rattle.tv_terminal.specs.declared.action.Action.{Action}
-use Rattle.tv_terminal.specs.declared.action.Action.TheVariants.{Event, Quit, Reported}
+use Rattle.tv_terminal.specs.declared.action.Action.TheVariants.{Event, Quit, Ready, Resized}
 
 -- ---- events
 
@@ -39,7 +39,8 @@ has_refresh d = list_any (λ item. is_same_key item.key refresh) d.status
 -- where the terminal reports, and by Ctrl-L where no status item has that key
 abbrev pub is_refreshing : Desc → Action → Bool
 is_refreshing d Quit = false
-is_refreshing d Reported = true
+is_refreshing d Ready = true
+is_refreshing d (Resized size) = true
 is_refreshing d (Event (events.Key k)) = is_same_key k refresh && not (has_refresh d)
 is_refreshing d (Event event) = false
 
@@ -59,21 +60,6 @@ reached s actions = session_at s (events_in s.desc actions)
 abbrev pub script_of : Desc → List Action → List Item
 script_of d actions = script_with (events_in d actions)
 
--- ---- the bell
-
--- an input refused the event, and the log says so
-abbrev pub is_refusal : LogLine → Bool
-is_refusal (lines.Invalid name) = true
-is_refusal _ = false
-
-abbrev pub is_refused : Session → Bool
-is_refused s = list_any is_refusal s.state.log
-
--- how many of some events are refused
-abbrev pub refusals : Session → List Happening → ℕ
-refusals s [] = 0
-refusals s (e ∷ events) = (if is_refused (stepped s e) then 1 else 0) + refusals (stepped s e) events
-
 -- ---- the user leaves
 
 -- Ctrl-C
@@ -87,7 +73,8 @@ has_interrupt d = list_any (λ item. is_same_key item.key interrupt) d.status
 -- by Ctrl-\ always, and by Ctrl-C where no status item has that key
 abbrev pub is_leaving : Desc → Action → Bool
 is_leaving d Quit = true
-is_leaving d Reported = false
+is_leaving d Ready = false
+is_leaving d (Resized size) = false
 is_leaving d (Event (events.Key k)) = is_same_key k interrupt && not (has_interrupt d)
 is_leaving d (Event event) = false
 

@@ -6,6 +6,10 @@ pub mod Edge
 pub mod Ends
 -- the cursor of the focused input
 pub mod Cursor
+-- what an input refuses
+pub mod Refusals
+-- the note below the screen
+pub mod Notes
 -- what a terminal shows of a run
 pub mod Shown
 -- a run in a terminal, step by step

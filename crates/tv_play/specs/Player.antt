@@ -6,7 +6,7 @@ use Rattle.tv_terminal.specs.Decoding.{Symbol, decode, left}
 use Rattle.tv_terminal.specs.declared.action.Action.{Action}
 use Rattle.tv_play.specs.Pieces.{Heard}
 use Rattle.tv_play.specs.Playing.{Ports}
-use Rattle.tv_play.specs.Shown.{HasSize}
+use Rattle.tv_play.specs.Notes.{IsMonitorOf}
 use Rattle.tv_play.specs.Steps.{IsPlaying, Outside, TurnsTo, outside}
 use Rattle.tv_play.specs.declared.parting.Parting.{Parting}
 use Rattle.tv_play.specs.declared.parting.PlayFault.{PlayFault}
@@ -14,10 +14,10 @@ use Rattle.tv_play.specs.declared.player.Player.{Player}
 
 -- ---- what is seen of it
 
--- what its writers took, whether that of the screen or that of the tape failed, and what the terminal is taken to show
+-- what its writers took, whether that of the screen or that of the tape failed, and what is known of the terminal
 abbrev pub outside_of : {L T W R : Type 0} → (T → Seen) → (W → Seen) → (R → Seen) → Player L T W R → Outside
 outside_of screen log tape p =
-    outside (log p.log.now) (screen p.pen.out.now) (tape p.tape.out.now) p.pen.stopped p.tape.stopped p.painter.now
+    outside (log p.log.now) (screen p.pen.out.now) (tape p.tape.out.now) p.pen.stopped p.tape.stopped p.monitor.now
 
 -- its outputs, beside an input
 abbrev pub ports_of : {L T W R : Type 0} → (T → Seen) → (W → Seen) → (R → Seen) → Heard → Player L T W R → Ports
@@ -26,11 +26,11 @@ ports_of screen log tape input p =
 
 -- ---- what every call keeps
 
--- its stage stands for a session, and its painter is one for that session's screen
+-- its stage stands for a session, and what it knows of the terminal is of that session's screen
 pub record HasStage {L T W R : Type 0} (stands : L → Session → Type 0) (p : Player L T W R) : Type 0 where
   pub session : Session
   pub here : stands p.stage.now session
-  pub size : HasSize session p.painter.now
+  pub size : IsMonitorOf session.desc p.monitor.now
 
 -- it can go on: neither the writer of the screen nor that of the tape has failed
 pub record IsReady {L T W R : Type 0} (stands : L → Session → Type 0) (p : Player L T W R) : Type 0 where

@@ -15,7 +15,9 @@ use Rattle.tv_machine.specs.Run.{Session}
 use Rattle.tv_model.specs.Description.Numbers.{natural}
 use Rattle.tv_model.specs.declared.desc.Desc.{Desc}
 use Rattle.tv_play.specs.Cursor.{is_cursor}
-use Rattle.tv_play.specs.Ends.{events_in, is_refreshing, reached, refusals}
+use Rattle.tv_play.specs.Ends.{events_in, is_refreshing, reached}
+use Rattle.tv_play.specs.Notes.{FitsTold, ShowsNote, refusal_told, size_told}
+use Rattle.tv_play.specs.Refusals.{refusals}
 
 -- ---- sessions
 
@@ -24,8 +26,9 @@ pub record IsScreenPlace (s : Session) (column row : ℕ) : Type 0 where
   pub across : column < natural s.desc.width
   pub down : row < natural s.desc.height
 
--- no cell of the screen has changed but those of some rectangles
+-- no cell of the screen has changed but those of some rectangles, which lie on it
 pub record KeepsScreen (rects : List Rect) (old new : Session) : Type 0 where
+  pub within : (column row : ℕ) → has_cell rects column row ≡ true → IsScreenPlace old column row
   pub each : (column row : ℕ) → IsScreenPlace old column row → has_cell rects column row ≡ false
       → screen_cell new column row ≡ screen_cell old column row
 
@@ -71,6 +74,10 @@ pub record ShowsSession (colours : Colours) (s : Session) (d e : Display) : Type
 
 -- ---- a run
 
+-- after each of the actions from one on and up to another it is no smaller than it told, and told that it has room
+abbrev pub IsAsTold : Session → List Action → (j k : ℕ) → Display → Type 0
+IsAsTold s actions j k d = (i : ℕ) → j ≤ i → i ≤ k → FitsTold s.desc (size_told (take i actions)) d
+
 -- a frame paints the whole screen: that of the beginning, and that of each action for which it is painted anew
 abbrev pub is_whole : Desc → List Action → (frame : ℕ) → Bool
 is_whole d actions zero = true
@@ -80,11 +87,12 @@ is_whole d actions (suc k) = list_any (is_refreshing d) (take 1 (drop k actions)
 abbrev pub refusals_to : Session → List Action → (k : ℕ) → ℕ
 refusals_to s actions k = refusals s (events_in s.desc (take k actions))
 
--- told some frames, up to that of an action, it shows the screen that the action left, and its bell rang once
--- for each refusal
+-- told some frames, up to that of an action, it shows the screen that the action left, and below it why an input
+-- refused that, and its bell rang once for each refusal
 pub record ShowsFrames (colours : Colours) (s : Session) (actions : List Action) (j k : ℕ) (d e : Display)
     : Type 0 where
   pub shows : ShowsSession colours (reached s (take k actions)) d e
+  pub note : ShowsNote s.desc (size_told (take k actions)) (refusal_told s (take k actions)) e
   pub bells : e.bells + refusals_to s actions j ≡ d.bells + refusals_to s actions k
 
 -- The bytes of the beginning, and those of each action: told them from a frame on that paints the whole screen,
@@ -92,8 +100,8 @@ pub record ShowsFrames (colours : Colours) (s : Session) (actions : List Action)
 pub record ShowsEach (colours : Colours) (s : Session) (actions : List Action) (frames : List (List ℕ))
     : Type 0 where
   pub count : length frames ≡ length actions + 1
-  pub each : (d : Display) → HasRoom s d → (j k : ℕ) → is_whole s.desc actions j ≡ true → j ≤ k
-      → k ≤ length actions → Becomes (concat (drop j (take (k + 1) frames))) d (ShowsFrames colours s actions j k d)
+  pub each : (d : Display) → HasRoom s d → (j k : ℕ) → IsAsTold s actions j k d → is_whole s.desc actions j ≡ true
+      → j ≤ k → k ≤ length actions → Becomes (concat (drop j (take (k + 1) frames))) d (ShowsFrames colours s actions j k d)
 
 -- it is as it was, in plain colours, with its cursor, without the mouse and what else a run asks for; but its bell
 -- rang once for each refusal
@@ -103,5 +111,5 @@ pub record IsAsBefore (s : Session) (actions : List Action) (j : ℕ) (d e : Dis
 
 -- told them all from such a frame on, and the bytes of the end
 pub record IsRestored (s : Session) (actions : List Action) (frames : List (List ℕ)) : Type 0 where
-  pub end : (d : Display) → HasRoom s d → (j : ℕ) → is_whole s.desc actions j ≡ true → j ≤ length actions
-      → Becomes (concat (drop j frames) ++ end_bytes) d (IsAsBefore s actions j d)
+  pub end : (d : Display) → HasRoom s d → (j : ℕ) → IsAsTold s actions j (length actions) d
+      → is_whole s.desc actions j ≡ true → j ≤ length actions → Becomes (concat (drop j frames) ++ end_bytes) d (IsAsBefore s actions j d)

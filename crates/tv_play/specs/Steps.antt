@@ -1,6 +1,6 @@
 -- A run in a terminal, step by step.
 use Rattle.std.specs.Prelude.{◌≡◌, ◌<◌, ◌≤◌, ◌+◌, ◌^◌, ◌⊎◌, ℕ, Bool, true, false, List, [], ◌∷◌, ◌++◌, All}
-use Rattle.std.specs.Prelude.{take, drop, length, Option, Some, None, Result, Ok, Err}
+use Rattle.std.specs.Prelude.{take, drop, length, Option, Some, None, Result, Ok, Err, is_some}
 use Rattle.std.specs.List.{concat}
 use Rattle.tv_terminal.specs.Displays.{Becomes}
 use Rattle.tv_terminal.specs.Terminal.{Display}
@@ -19,7 +19,9 @@ use Rattle.tv_terminal.specs.declared.action.Action.{Action}
 use Rattle.tv_script.specs.Tapes.{script_text}
 use Rattle.tv_play.specs.Ends.{events_in, is_finished, is_leaving, reached, script_of}
 use Rattle.tv_play.specs.Pieces.{ComesNot, HasCome, HasEnded, Heard}
-use Rattle.tv_play.specs.Shown.{HasRoom, HasSize, ShowsEach, is_whole}
+use Rattle.tv_play.specs.Notes.{refusal_told, size_told, window_of}
+use Rattle.tv_play.specs.Shown.{HasRoom, HasSize, IsAsTold, ShowsEach, is_whole}
+use Rattle.tv_play.specs.declared.monitor.Monitor.{Monitor}
 use Rattle.tv_play.specs.declared.pieces.Piece.{Piece}
 use Rattle.tv_play.specs.declared.pieces.Piece.TheVariants as pieces
 use Rattle.tv_play.specs.declared.parting.Parting.{Parting}
@@ -36,17 +38,21 @@ pub record HasTaken (s : Session) (painter : Painter) : Type 0 where
   pub each : (column row : ℕ) → IsOn painter.shown column row
       → cell_at painter.shown column row ≡ screen_cell s column row
 
--- what a terminal has to be told of the run so far was written to it, and the painter knows what that shows
+-- what a terminal has to be told of the run so far was written to it, and it is known what that shows
 pub record HasBeenShown (colours : Colours) (s : Session) (actions : List Action) (from now : Seen)
     (stopped : Bool)
-    (painter : Painter) : Type 0 where
+    (monitor : Monitor) : Type 0 where
   pub frames : List (List ℕ)
-  pub same : painter.colours ≡ colours
+  pub same : monitor.painter.colours ≡ colours
+  pub told : monitor.size ≡ size_told actions
+  pub window : monitor.painter.window ≡ window_of s.desc monitor.size
+  pub noted : monitor.is_noted ≡ is_some (refusal_told s actions)
   pub shows : ShowsEach colours s actions frames
   pub put : PutsBy from false now stopped (concat frames)
-  pub taken : HasTaken (reached s actions) painter
-  pub right : (d : Display) → HasRoom s d → (j : ℕ) → is_whole s.desc actions j ≡ true → j ≤ length actions
-      → Becomes (concat (drop j frames)) d (IsRight painter)
+  pub taken : HasTaken (reached s actions) monitor.painter
+  pub right : (d : Display) → HasRoom s d → (j : ℕ) → IsAsTold s actions j (length actions) d
+      → is_whole s.desc actions j ≡ true → j ≤ length actions
+      → Becomes (concat (drop j frames)) d (IsRight monitor.painter)
 
 -- ---- symbols and actions
 
@@ -59,15 +65,15 @@ pub record IsHeard (s : Session) (symbols : List Symbol) (actions rest : List Ac
 
 -- ---- the run
 
--- what the three writers took, whether that of the screen or that of the tape failed, and what the terminal is
--- taken to show
+-- what the three writers took, whether that of the screen or that of the tape failed, and what is known of the
+-- terminal
 pub record Outside : Type 0 where
   pub log : Seen
   pub screen : Seen
   pub tape : Seen
   pub stopped : Bool
   pub torn : Bool
-  pub painter : Painter
+  pub monitor : Monitor
 
 -- the lines of the events that were performed were written on the tape, or a part of them if it failed
 abbrev pub IsTaped : (s : Session) → List Action → (from now : Outside) → Type 0
@@ -79,7 +85,7 @@ pub record IsPlaying (s : Session) (symbols : List Symbol) (from now : Outside) 
   pub actions : List Action
   pub heard : IsHeard s symbols actions []
   pub goes : is_finished (reached s actions) ≡ false
-  pub shown : HasBeenShown from.painter.colours s actions from.screen now.screen now.stopped now.painter
+  pub shown : HasBeenShown from.monitor.painter.colours s actions from.screen now.screen now.stopped now.monitor
   pub performs : Performs s (script_of s.desc actions) from.log now.log Left
   pub taped : IsTaped s actions from now
   pub going : now.stopped ≡ false
@@ -112,7 +118,7 @@ pub record HasPlayedOut (s : Session) (symbols : List Symbol) (from now : Outsid
   pub actions : List Action
   pub rest : List Action
   pub heard : IsHeard s symbols actions rest
-  pub shown : HasBeenShown from.painter.colours s actions from.screen now.screen now.stopped now.painter
+  pub shown : HasBeenShown from.monitor.painter.colours s actions from.screen now.screen now.stopped now.monitor
   pub left : Left (after s (script_of s.desc actions))
   pub taped : IsTaped s actions from now
   pub ended : IsEndedBy s actions rest from now outcome
@@ -150,7 +156,7 @@ pub record HasRun (s : Session) (input later : Heard) (from now : Outside) (Left
   pub actions : List Action
   pub rest : List Action
   pub heard : IsHeard s symbols actions rest
-  pub shown : HasBeenShown from.painter.colours s actions from.screen now.screen now.stopped now.painter
+  pub shown : HasBeenShown from.monitor.painter.colours s actions from.screen now.screen now.stopped now.monitor
   pub left : Left (after s (script_of s.desc actions))
   pub taped : IsTaped s actions from now
   pub came : CameTo s symbols actions rest input later from now outcome
@@ -174,6 +180,6 @@ or_end None pieces.End = Some (Ok partings.Ended)
 or_end None (pieces.Bytes count) = None
 or_end None pieces.Pause = None
 
-abbrev pub outside : (log screen tape : Seen) (stopped torn : Bool) → Painter → Outside
-outside log screen tape stopped torn painter =
-    record { log = log; screen = screen; tape = tape; stopped = stopped; torn = torn; painter = painter }
+abbrev pub outside : (log screen tape : Seen) (stopped torn : Bool) → Monitor → Outside
+outside log screen tape stopped torn monitor =
+    record { log = log; screen = screen; tape = tape; stopped = stopped; torn = torn; monitor = monitor }

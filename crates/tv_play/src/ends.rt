@@ -4,7 +4,7 @@ ghost use Rattle.std.specs.Prelude.{◌≡◌, ◌&&◌, not, is_some};
 ghost use Rattle.std.specs.List.{list_any};
 ghost use Rattle.tv_machine.specs.Run.{Session};
 ghost use Rattle.tv_model.specs.Faults.Letters.{is_same_key};
-ghost use Rattle.tv_play.specs.Ends.{IsTakenFor, has_interrupt, has_no_bars, has_refresh, interrupt, is_finished, is_leaving, is_quit, is_refreshing, is_refusal, is_refused, refresh};
+ghost use Rattle.tv_play.specs.Ends.{IsTakenFor, has_interrupt, has_no_bars, has_refresh, interrupt, is_finished, is_leaving, is_quit, is_refreshing, refresh};
 
 use crate::live::Live;
 use tv_event::{Event, Key};
@@ -35,7 +35,7 @@ fn has_no_bars(desc: &Desc) -> bool
 fn is_idle<L: Live>(stage: &L) -> bool
     ensures { (s : Session) → L.stands stage.now s → result ≡ (not (is_some s.state.dialog) && has_no_bars s.desc) }
 {
-    !stage.is_dialog_open() && has_no_bars(stage.desc())
+    stage.focus().is_none() && has_no_bars(stage.desc())
 }
 
 /// Whether nothing can happen any more, with the log of the last event not yet taken.
@@ -70,7 +70,7 @@ fn is_leaving(desc: &Desc, action: Action) -> bool
     match action {
         Action::Quit => true,
         Action::Event(Event::Key(key)) => is_interrupt(key) && !has_interrupt(desc),
-        Action::Event(_) | Action::Reported => false,
+        Action::Event(_) | Action::Ready | Action::Resized(_) => false,
     }
 }
 
@@ -97,7 +97,7 @@ fn is_refreshing(desc: &Desc, action: Action) -> bool
     ensures { result ≡ is_refreshing desc.now action }
 {
     match action {
-        Action::Reported => true,
+        Action::Ready | Action::Resized(_) => true,
         Action::Event(Event::Key(key)) => is_refresh(key) && !has_refresh(desc),
         Action::Event(_) | Action::Quit => false,
     }
@@ -124,24 +124,4 @@ pub(crate) fn step_of(desc: &Desc, action: Action) -> Step
         Action::Event(event) if !is_refreshing(desc, action) => Step::Perform(event),
         _ => Step::Refresh,
     }
-}
-
-// Whether the line says that an input refused the event.
-fn is_refusal(line: &LogLine) -> bool
-    ensures { result ≡ is_refusal line.now }
-{
-    matches!(line, LogLine::Invalid(_))
-}
-
-fn has_refusal(lines: &[LogLine]) -> bool
-    ensures { result ≡ list_any is_refusal lines.now }
-{
-    lines.iter().any(is_refusal)
-}
-
-/// Whether an input refused the last event, whose log isn't yet taken.
-pub(crate) fn is_refused<L: Live>(stage: &L) -> bool
-    ensures { (s : Session) → L.stands stage.now s → result ≡ is_refused s }
-{
-    has_refusal(stage.log())
 }

@@ -6,11 +6,13 @@ mod edge;
 mod ends;
 mod journal;
 mod live;
+mod monitor;
 mod outputs;
 mod parting;
 mod pieces;
 mod player;
 mod playing;
+mod refusal;
 mod session;
 mod show;
 

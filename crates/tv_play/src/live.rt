@@ -1,6 +1,6 @@
 //! What is run in a terminal.
 
-ghost use Rattle.std.specs.Prelude.{◌≡◌, List, is_some};
+ghost use Rattle.std.specs.Prelude.{◌≡◌, List, option_map};
 ghost use Rattle.tv_cells.specs.declared.rect.Rect.{Rect as Declared};
 ghost use Rattle.tv_machine.specs.Run.{Session, stepped};
 ghost use Rattle.tv_play.specs.Shown.{KeepsScreen};
@@ -8,6 +8,7 @@ ghost use Rattle.tv_terminal.specs.Points.{IsPlaced};
 
 use tv_cells::Rect;
 use tv_event::Event;
+use tv_model::Id;
 use tv_script::Stage;
 
 /// A run of a description that tells what of its screen an event had painted again.
@@ -25,7 +26,7 @@ pub trait Live: Stage {
     fn repainted(&self) -> &[Rect]
         ensures { result.now ≡ repaints self.now };
 
-    /// Whether a dialog is open.
-    fn is_dialog_open(&self) -> bool
-        ensures { (s : Session) → Self.stands self.now s → result ≡ is_some s.state.dialog };
+    /// Returns the control that has the focus, while a dialog is open.
+    fn focus(&self) -> Option<Id>
+        ensures { (s : Session) → Self.stands self.now s → result ≡ option_map (λ o. o.focus) s.state.dialog };
 }

@@ -6,6 +6,7 @@ ghost use Rattle.tv_play.specs.Ends.{IsTakenFor};
 ghost use Rattle.tv_play.specs.declared.ends.Step.TheVariants as steps;
 ghost use Rattle.tv_play.specs.Pieces.{FitsRoom, symbols_in};
 ghost use Rattle.tv_play.specs.Player.{Acts, Hears, IsReady, KeepsPlayer};
+ghost use Rattle.tv_play.specs.Notes.{size_with};
 ghost use Rattle.tv_play.specs.Steps.{outcome_of};
 ghost use Rattle.tv_terminal.specs.Decoding.{Byte, Pause, before};
 ghost use Rattle.tv_terminal.specs.Sent.{IsSent, IsSentAction};
@@ -15,25 +16,26 @@ use crate::edge::brought;
 use crate::ends::{Step, is_finished, step_of};
 use crate::journal::write_log;
 use crate::live::Live;
+use crate::monitor::Monitor;
 use crate::parting::{Parting, PlayFault};
 use crate::pieces::Piece;
 use crate::show;
 use tv_event::Event;
 use tv_io::{Pen, WriteFailed, Writer};
 use tv_script::put_event_line;
-use tv_terminal::{Action, Decoder, Painter};
+use tv_terminal::{Action, Decoder, Size};
 
 /// How a run in a terminal ends.
 pub(crate) type Outcome = Result<Parting, PlayFault>;
 
-/// A run in a terminal: what is run, what the terminal is taken to show, where its bytes, the log and the events go, and what
+/// A run in a terminal: what is run, what is known of the terminal, where its bytes, the log and the events go, and what
 /// was read.
 ///
 /// It owns no memory, so that what it is lent is given back where it is let go.
 #[derive(Drop)]
-pub(crate) struct Player<'s, 'p, 't, 'w, 'r, L: Live, T: Writer, W: Writer, R: Writer> {
+pub(crate) struct Player<'s, 'm, 't, 'w, 'r, L: Live, T: Writer, W: Writer, R: Writer> {
     pub(crate) stage: &'s mut L,
-    pub(crate) painter: &'p mut Painter,
+    pub(crate) monitor: &'m mut Monitor,
     pub(crate) pen: Pen<'t, T>,
     pub(crate) log: &'w mut W,
     pub(crate) tape: Pen<'r, R>,
@@ -54,7 +56,7 @@ impl<L: Live, T: Writer, W: Writer, R: Writer> Player<'_, '_, '_, '_, '_, L, T, 
         let event = brought(self.stage.desc(), told);
         put_event_line(&mut self.tape, &event);
         self.stage.react(&event);
-        show::repaint(self.painter, &mut self.pen, self.stage);
+        show::repaint(self.monitor, &mut self.pen, self.stage, &event);
         let is_finished = is_finished(self.stage);
         let written = write_log(self.log, self.stage);
         outcome_of(is_finished, written, self.pen.stopped, self.tape.stopped)
@@ -67,7 +69,7 @@ impl<L: Live, T: Writer, W: Writer, R: Writer> Player<'_, '_, '_, '_, '_, L, T, 
         ensures kept { KeepsPlayer L.stands self.old self.new result }
         ensures acts { Acts L.stands T.seen W.seen R.seen self.old self.new (action ∷ []) result }
     {
-        show::show_all(self.painter, &mut self.pen, self.stage);
+        show::show_all(self.monitor, &mut self.pen, self.stage, size_in(action));
         outcome_of(false, Ok(()), self.pen.stopped, self.tape.stopped)
     }
 
@@ -134,6 +136,16 @@ impl<L: Live, T: Writer, W: Writer, R: Writer> Player<'_, '_, '_, '_, '_, L, T, 
             Some(bytes) => self.take_bytes(bytes),
             None => self.take_pause(),
         }
+    }
+}
+
+// The size that an action tells.
+fn size_in(action: Action) -> Option<Size>
+    ensures { result ≡ size_with None action }
+{
+    match action {
+        Action::Resized(size) => Some(size),
+        Action::Event(_) | Action::Quit | Action::Ready => None,
     }
 }
 

@@ -1,17 +1,18 @@
 //! A run in a terminal, from its begin to its end.
 
-ghost use Rattle.std.specs.Prelude.{◌≡◌, [], false, IfOk};
+ghost use Rattle.std.specs.Prelude.{◌≡◌, [], None, false, IfOk};
 ghost use Rattle.tv_terminal.specs.Decoding.{between};
 ghost use Rattle.tv_machine.specs.Run.{Session};
 ghost use Rattle.tv_play.specs.Player.{HasPlayed, HasSame, IsReady, outside_of, ports_of};
 ghost use Rattle.tv_play.specs.Outputs.{HasSameOutputs, ports_with};
 ghost use Rattle.tv_play.specs.Playing.{Plays, PlaysTo, told_with};
-ghost use Rattle.tv_play.specs.Shown.{HasSize};
+ghost use Rattle.tv_play.specs.Notes.{IsMonitorOf};
 ghost use Rattle.tv_play.specs.Steps.{HasRun, Outside, or_end};
 
 use crate::ends::is_finished;
 use crate::journal::write_log;
 use crate::live::Live;
+use crate::monitor::Monitor;
 use crate::outputs::Outputs;
 use crate::parting::{Parting, PlayFault};
 use crate::pieces::{Piece, Pieces};
@@ -50,37 +51,43 @@ pub fn play<L: Live, P: Pieces, T: Writer, W: Writer, R: Writer>(
         → PlaysTo outputs.old.colours s (ports_with T.seen W.seen R.seen (P.heard pieces.old) outputs.old)
         (ports_with T.seen W.seen R.seen (P.heard pieces.new) outputs.new) (L.stands stage.new) result }
 {
-    let Ok(mut painter) = painter_of(alloc, stage, outputs.colours) else {
+    let Ok(mut monitor) = monitor_of(alloc, stage, outputs.colours) else {
         return Err(PlayFault::NoMemory);
     };
-    play_with(stage, pieces, outputs, &mut painter)
+    play_with(stage, pieces, outputs, &mut monitor)
 }
 
-// A painter for its screen.
-fn painter_of<L: Live>(alloc: Global, stage: &L, colours: Colours) -> Result<Painter, ScreenFault>
-    ensures size { (s : Session) → L.stands stage.now s → IfOk result (λ painter. HasSize s painter) }
-    ensures colours { IfOk result (λ painter. painter.colours ≡ colours) }
+// The terminal for its screen, of which nothing is known.
+fn monitor_of<L: Live>(alloc: Global, stage: &L, colours: Colours) -> Result<Monitor, ScreenFault>
+    ensures size { (s : Session) → L.stands stage.now s → IfOk result (λ monitor. IsMonitorOf s.desc monitor) }
+    ensures colours { IfOk result (λ monitor. monitor.painter.colours ≡ colours) }
+    ensures untold { IfOk result (λ monitor. monitor.size ≡ None) }
 {
     let screen = stage.screen();
-    Painter::new(alloc, screen.width(), screen.height(), colours)
+    Ok(Monitor {
+        painter: Painter::new(alloc, screen.width(), screen.height(), colours)?,
+        size: None,
+        is_noted: false,
+    })
 }
 
-// Plays it with a painter for its screen.
+// Plays it in such a terminal.
 fn play_with<L: Live, P: Pieces, T: Writer, W: Writer, R: Writer>(
     stage: &mut L,
     pieces: &mut P,
     outputs: &mut Outputs<T, W, R>,
-    painter: &mut Painter,
+    monitor: &mut Monitor,
 ) -> Outcome
-    requires there { (t : Session) × L.stands stage.old t × HasSize t painter.old }
+    requires there { (t : Session) × L.stands stage.old t × IsMonitorOf t.desc monitor.old }
+    requires untold { monitor.old.size ≡ None }
     ensures same { HasSameOutputs outputs.old outputs.new }
     ensures plays { (s : Session) → L.stands stage.old s
-        → PlaysTo painter.old.colours s (ports_with T.seen W.seen R.seen (P.heard pieces.old) outputs.old)
+        → PlaysTo monitor.old.painter.colours s (ports_with T.seen W.seen R.seen (P.heard pieces.old) outputs.old)
         (ports_with T.seen W.seen R.seen (P.heard pieces.new) outputs.new) (L.stands stage.new) result }
 {
     let mut player = Player {
         stage,
-        painter,
+        monitor,
         pen: Pen {
             out: &mut *outputs.screen,
             stopped: false,
@@ -100,13 +107,14 @@ impl<L: Live, T: Writer, W: Writer, R: Writer> Player<'_, '_, '_, '_, '_, L, T, 
     fn play_through<P: Pieces>(&mut self, pieces: &mut P) -> Outcome
         requires ready { IsReady L.stands self.old }
         requires fresh { self.old.decoder ≡ between false }
+        requires untold { self.old.monitor.now.size ≡ None }
         ensures same { HasSame self.old self.new }
         ensures plays { (s : Session) → L.stands self.old.stage.now s
-            → Plays self.old.painter.now.colours s (ports_of T.seen W.seen R.seen (P.heard pieces.old) self.old)
+            → Plays self.old.monitor.now.painter.colours s (ports_of T.seen W.seen R.seen (P.heard pieces.old) self.old)
             (ports_of T.seen W.seen R.seen (P.heard pieces.new) self.new) (L.stands self.new.stage.now) result }
     {
         let outcome = self.play_begun(pieces);
-        show::end(self.painter, &mut self.pen);
+        show::end(&mut self.monitor.painter, &mut self.pen);
         match outcome {
             Ok(parting) => {
                 self.tape.pass_on();
@@ -121,12 +129,13 @@ impl<L: Live, T: Writer, W: Writer, R: Writer> Player<'_, '_, '_, '_, '_, L, T, 
     fn play_begun<P: Pieces>(&mut self, pieces: &mut P) -> Outcome
         requires ready { IsReady L.stands self.old }
         requires fresh { self.old.decoder ≡ between false }
+        requires untold { self.old.monitor.now.size ≡ None }
         ensures same { HasSame self.old self.new }
         ensures runs { (s : Session) → L.stands self.old.stage.now s
             → HasRun s (P.heard pieces.old) (P.heard pieces.new) (outside_of T.seen W.seen R.seen self.old)
             (outside_of T.seen W.seen R.seen self.new) (L.stands self.new.stage.now) result }
     {
-        show::show_all(self.painter, &mut self.pen, self.stage);
+        show::show_all(self.monitor, &mut self.pen, self.stage, None);
         let is_finished = is_finished(self.stage);
         let written = write_log(self.log, self.stage);
         match outcome_of(is_finished, written, self.pen.stopped, self.tape.stopped) {

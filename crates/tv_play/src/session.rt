@@ -3,6 +3,7 @@
 use crate::live::Live;
 use tv_cells::Rect;
 use tv_event::Event;
+use tv_model::Id;
 use tv_session::SessionOf;
 use tv_view::View;
 
@@ -17,7 +18,7 @@ impl<V: View> Live for SessionOf<V> {
         SessionOf::repainted(self)
     }
 
-    fn is_dialog_open(&self) -> bool {
-        self.focus().is_some()
+    fn focus(&self) -> Option<Id> {
+        SessionOf::focus(self)
     }
 }

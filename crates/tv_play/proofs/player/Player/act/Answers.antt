@@ -5,7 +5,6 @@ use Rattle.tv_model.specs.declared.desc.Desc.{Desc}
 use Rattle.tv_play.specs.Edge.{brought}
 use Rattle.tv_play.specs.Ends.{IsTakenFor, events_in, reached, script_of}
 use Rattle.tv_play.specs.declared.ends.Step.TheVariants as steps
-use Rattle.tv_play.specs.Shown.{KeepsScreen}
 use Rattle.tv_play.specs.Steps.{outside}
 use Rattle.tv_play.proofs.EdgeLemmas.{brought-placed}
 use Rattle.tv_play.proofs.ActionLemmas.{desc-reached}
@@ -25,7 +24,7 @@ pub repaint-requires : goal.repaint-requires
 repaint-requires g c =
     let staged = c.requires.ready.staged in
     let e = c.brought-event.result in
-    record { there = (stepped staged.session e, c.react.ensures.stands staged.session staged.here, size-stepped staged.session e c.args.self.now.painter.now staged.size) }
+    record { there = (stepped staged.session e, c.react.ensures.stands staged.session staged.here, size-stepped staged.session e c.args.self.now.monitor.now staged.size) }
 
 pub returns-clause-kept : goal.returns-clause-kept
 returns-clause-kept g c =
@@ -37,7 +36,7 @@ returns-clause-kept g c =
       staged = record {
         session = quiet u;
         here = c.write_log-written.ensures.taken u (c.react.ensures.stands staged.session staged.here);
-        size = size-quiet u c.repaint.new.painter (c.repaint.ensures.size u (size-stepped staged.session e c.args.self.now.painter.now staged.size));
+        size = size-quiet u c.repaint.new.monitor (c.repaint.ensures.size u (size-stepped staged.session e c.args.self.now.monitor.now staged.size));
       };
       going = λ none. (going-both c.is_finished-is_finished.result c.write_log-written.result c.repaint.new.pen.stopped c.put_event_line.new.pen.stopped (sym c.outcome_of.ensures ∙ none)).0;
       whole = λ none. (going-both c.is_finished-is_finished.result c.write_log-written.result c.repaint.new.pen.stopped c.put_event_line.new.pen.stopped (sym c.outcome_of.ensures ∙ none)).1;
@@ -48,7 +47,7 @@ returns-clause-acts g c = λ s symbols next from playing read means.
     let told = c.args.told.now in
     let e = c.brought-event.result in
     let tape = c.put_event_line.new.pen in
-    let now = outside (g.W.Writer.seen c.write_log-written.new.log) (g.T.Writer.seen c.repaint.new.pen.out.now) (g.R.Writer.seen tape.out.now) c.repaint.new.pen.stopped tape.stopped c.repaint.new.painter in
+    let now = outside (g.W.Writer.seen c.write_log-written.new.log) (g.T.Writer.seen c.repaint.new.pen.out.now) (g.R.Writer.seen tape.out.now) c.repaint.new.pen.stopped tape.stopped c.repaint.new.monitor in
     let New = g.L.Stage.stands c.write_log-written.new.stage in
     let here = quiet (reached s playing.actions) in
     let so_far = after s (script_of s.desc playing.actions) in
@@ -59,10 +58,9 @@ returns-clause-acts g c = λ s symbols next from playing read means.
           (turns s symbols next from _ _ playing now New told e comes taken means
           (λ t stands. c.write_log-written.ensures.taken (stepped t e) (c.react.ensures.stands t stands))
           (λ colours actions first stands shown.
-          c.repaint.ensures.shown colours s actions told first taken.2
-          (subst (λ x. g.L.Stage.stands c.react.new.self (stepped (reached s actions) x)) comes (c.react.ensures.stands (quiet (reached s actions)) stands))
-          (subst (λ x. KeepsScreen (g.L.Live.repaints c.react.new.self) (reached s actions) (stepped (reached s actions) x)) comes
-          (keeps-loud (reached s actions) e (c.react.ensures.rest (quiet (reached s actions)) stands))) shown)
+          c.repaint.ensures.shown colours s actions told first taken.2 comes
+          (c.react.ensures.stands (quiet (reached s actions)) stands)
+          (keeps-loud (reached s actions) e (c.react.ensures.rest (quiet (reached s actions)) stands)) shown)
           c.put_event_line.ensures.how
           c.is_finished-is_finished.result (λ t stands. c.is_finished-is_finished.ensures (stepped t e) (c.react.ensures.stands t stands)) c.write_log-written.result c.repaint.new.pen.stopped tape.stopped refl refl
           (logged-event from.log _ _ s (events_in s.desc playing.actions) e c.write_log-written.result playing.performs.written

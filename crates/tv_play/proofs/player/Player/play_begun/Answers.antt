@@ -15,14 +15,14 @@ pub returns-in-Some-clause-runs : goal.returns-in-Some-clause-runs
 returns-in-Some-clause-runs g c = λ s stands.
     let old = c.args.self.now in
     let pen = c.show_all.new.pen in
-    let begun = outside (g.W.Writer.seen old.log.now) (g.T.Writer.seen old.pen.out.now) (g.R.Writer.seen old.tape.out.now) old.pen.stopped old.tape.stopped old.painter.now in
-    let now = outside (g.W.Writer.seen c.write_log-written.new.log) (g.T.Writer.seen pen.out.now) (g.R.Writer.seen old.tape.out.now) pen.stopped old.tape.stopped c.show_all.new.painter in
+    let begun = outside (g.W.Writer.seen old.log.now) (g.T.Writer.seen old.pen.out.now) (g.R.Writer.seen old.tape.out.now) old.pen.stopped old.tape.stopped old.monitor.now in
+    let now = outside (g.W.Writer.seen c.write_log-written.new.log) (g.T.Writer.seen pen.out.now) (g.R.Writer.seen old.tape.out.now) pen.stopped old.tape.stopped c.show_all.new.monitor in
     let Left = g.L.Stage.stands c.write_log-written.new.stage in
     let input = g.P.Pieces.heard c.args.pieces.now in
     run-by s [] input input begun now Left c.in-Some.outcome (come-none input)
     (turns-told s [] begun now Left c.in-Some.ensures
     (first-turns s begun now Left c.is_finished-is_finished.result (c.is_finished-is_finished.ensures s stands) c.write_log-written.result pen.stopped old.tape.stopped refl refl
-    (c.write_log-written.ensures.text s stands) (c.show_all.ensures.first s stands c.requires.ready.going) (c.write_log-written.ensures.taken s stands)
+    (c.write_log-written.ensures.text s stands) (c.show_all.ensures.first s stands c.requires.ready.going refl c.requires.untold) (c.write_log-written.ensures.taken s stands)
     (taped-none (g.R.Writer.seen old.tape.out.now) old.tape.stopped c.requires.ready.whole)))
 
 pub play_all-requires : goal.play_all-requires
@@ -33,7 +33,7 @@ play_all-requires g c =
         staged = record {
           session = quiet staged.session;
           here = c.write_log-written.ensures.taken staged.session staged.here;
-          size = size-quiet staged.session c.show_all.new.painter (c.show_all.ensures.size staged.session staged.size);
+          size = size-quiet staged.session c.show_all.new.monitor (c.show_all.ensures.size staged.session staged.size);
         };
         going = (going-both c.is_finished-is_finished.result c.write_log-written.result c.show_all.new.pen.stopped c.args.self.now.tape.stopped (sym c.in-None.ensures)).0;
         whole = c.requires.ready.whole;
@@ -49,13 +49,13 @@ pub returns-in-None-clause-runs : goal.returns-in-None-clause-runs
 returns-in-None-clause-runs g c = λ s stands.
     let old = c.args.self.now in
     let pen = c.show_all.new.pen in
-    let begun = outside (g.W.Writer.seen old.log.now) (g.T.Writer.seen old.pen.out.now) (g.R.Writer.seen old.tape.out.now) old.pen.stopped old.tape.stopped old.painter.now in
-    let now = outside (g.W.Writer.seen c.write_log-written.new.log) (g.T.Writer.seen pen.out.now) (g.R.Writer.seen old.tape.out.now) pen.stopped old.tape.stopped c.show_all.new.painter in
+    let begun = outside (g.W.Writer.seen old.log.now) (g.T.Writer.seen old.pen.out.now) (g.R.Writer.seen old.tape.out.now) old.pen.stopped old.tape.stopped old.monitor.now in
+    let now = outside (g.W.Writer.seen c.write_log-written.new.log) (g.T.Writer.seen pen.out.now) (g.R.Writer.seen old.tape.out.now) pen.stopped old.tape.stopped c.show_all.new.monitor in
     let Left = g.L.Stage.stands c.write_log-written.new.stage in
     c.play_all.ensures.runs s begun (record {
       run = turns-told s [] begun now Left c.in-None.ensures
           (first-turns s begun now Left c.is_finished-is_finished.result (c.is_finished-is_finished.ensures s stands) c.write_log-written.result pen.stopped old.tape.stopped refl refl
-          (c.write_log-written.ensures.text s stands) (c.show_all.ensures.first s stands c.requires.ready.going) (c.write_log-written.ensures.taken s stands)
+          (c.write_log-written.ensures.text s stands) (c.show_all.ensures.first s stands c.requires.ready.going refl c.requires.untold) (c.write_log-written.ensures.taken s stands)
           (taped-none (g.R.Writer.seen old.tape.out.now) old.tape.stopped c.requires.ready.whole));
       read = c.requires.fresh;
     })

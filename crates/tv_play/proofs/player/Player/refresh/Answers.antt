@@ -15,7 +15,7 @@ returns-clause-acts g c = λ s symbols next from playing read means.
     subst (λ (d : Desc). IsTakenFor d action steps.Refresh) (desc-reached s playing.actions) (c.requires.taken (quiet (reached s playing.actions)) stands) in
     record {
       turns = turns-told s next from _ _ c.outcome_of.ensures
-          (refreshes s symbols next from _ _ playing action taken means (g.T.Writer.seen c.show_all.new.pen.out.now) c.show_all.new.painter
-          c.show_all.new.pen.stopped (c.show_all.ensures.again from.painter.colours s playing.actions action from.screen stands taken.1 playing.shown) c.args.self.now.tape.stopped refl);
+          (refreshes s symbols next from _ _ playing action taken means (g.T.Writer.seen c.show_all.new.pen.out.now) c.show_all.new.monitor
+          c.show_all.new.pen.stopped (c.show_all.ensures.again from.monitor.painter.colours s playing.actions action from.screen stands taken.1 c.size_in.ensures playing.shown) c.args.self.now.tape.stopped refl);
       read = λ none. read;
     }

@@ -35,7 +35,7 @@ returns-in-Some-clause-hears g c = λ s symbols from played.
     let here = symbols ++ map Byte (take i bytes) in
     let before = c.loop-byte.invariant.plays s symbols from played in
     let new = c.take_meant.new.self in
-    let now = outside (g.W.Writer.seen new.log.now) (g.T.Writer.seen new.pen.out.now) (g.R.Writer.seen new.tape.out.now) new.pen.stopped new.tape.stopped new.painter.now in
+    let now = outside (g.W.Writer.seen new.log.now) (g.T.Writer.seen new.pen.out.now) (g.R.Writer.seen new.tape.out.now) new.pen.stopped new.tape.stopped new.monitor.now in
     let New = g.L.Stage.stands new.stage.now in
     let turned = c.in-Some.ensures.acts s here (here ++ Byte byte ∷ []) from before.run
     (kept-byte here byte c.loop-byte.self.decoder c.take-action.new.self before.read c.take-action.ensures.kept)

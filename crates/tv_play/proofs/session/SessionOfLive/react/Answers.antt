@@ -10,4 +10,4 @@ step-requires-clause-there g c = c.requires.there
 pub returns-clause-rest : goal.returns-clause-rest
 returns-clause-rest g c = λ s stands.
     keeps-screen c.step.new.self.repainted s c.args.event.now c.args.self.now.screen c.step.new.self.screen
-    stands.screen (c.step.ensures.stands s stands).screen c.step.ensures.rest
+    stands.screen (c.step.ensures.stands s stands).screen (c.step.ensures.within s stands) c.step.ensures.rest
