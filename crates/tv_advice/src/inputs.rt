@@ -7,6 +7,7 @@ use crate::spans::{Span, words};
 use std::alloc::{AllocError, Global};
 use tv_explain::Reason;
 use tv_model::{Input, Kind, Node, is_item};
+use tv_reasons::Wanted;
 use tv_valid::{Domain, DomainFault, DomainSpec, InputSpec};
 use unicode_width::UnicodeWidthChar;
 
@@ -149,8 +150,9 @@ fn start_text(alloc: Global, input: &Input) -> Result<Saying, AllocError> {
         String::from_str(alloc, "no right text begins so")?
     };
     let message = "the first text of this input can't be typed there";
-    let mend = "begin with a right text, or with \"\"";
-    Saying::new(alloc, message, LinePart::word(at), &label, mend)
+    let wanted = Wanted(&input.spec);
+    let mend = format!(in alloc; "begin with a right text ({wanted}), or with \"\"")?;
+    Saying::new(alloc, message, LinePart::word(at), &label, &mend)
 }
 
 // The item of a node that is marked or chosen at first and isn't there.

@@ -1,5 +1,6 @@
 //! Tests of the checker: descriptions that are read and printed, each fault just outside of what it asks for and just
-//! inside, certificates, acceptance and plans; and what is told of all these. Boxes too, which are made sound.
+//! inside, certificates, acceptance and plans; and what is told of all these. Boxes too, which are made sound, and why inputs
+//! refuse a text.
 #![tactic(auto)]
 
 #[cfg(test)]
@@ -34,6 +35,8 @@ mod large;
 mod plans;
 #[cfg(test)]
 mod printing;
+#[cfg(test)]
+mod reasons;
 #[cfg(test)]
 mod status_edges;
 #[cfg(test)]

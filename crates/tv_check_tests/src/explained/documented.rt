@@ -213,7 +213,7 @@ end
 =>   |
 => 4 | input day 2 1 12 5 picture "##/##" "1.5"
 =>   |                                    ^^^^^ no right text begins so
-=>   = mend: begin with a right text, or with ""
+=>   = mend: begin with a right text (as ##/##), or with ""
 tvd 1
 screen 40 12
 dialog hello 4 2 32 5 "漢字" ends cancel

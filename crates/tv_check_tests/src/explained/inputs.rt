@@ -67,19 +67,19 @@ const STARTS: &str = r###"input code 2 1 10 8 filter "0123" "124"
 =>   |
 => 5 | input code 2 1 10 8 filter "0123" "124"
 =>   |                                   ^^^^^ no right text begins so
-=>   = mend: begin with a right text, or with ""
+=>   = mend: begin with a right text (at most 8 characters, each of 0123), or with ""
 input code 2 1 10 8 range 1 99 "1x" validate
 => form.tvd:5:32: F13: the first text of this input can't be typed there
 =>   |
 => 5 | input code 2 1 10 8 range 1 99 "1x" validate
 =>   |                                ^^^^ no right text begins so
-=>   = mend: begin with a right text, or with ""
+=>   = mend: begin with a right text (a number from 1 to 99), or with ""
 input code 2 1 10 8 picture "##/##" "1.5" fill
 => form.tvd:5:37: F13: the first text of this input can't be typed there
 =>   |
 => 5 | input code 2 1 10 8 picture "##/##" "1.5" fill
 =>   |                                     ^^^^^ no right text begins so
-=>   = mend: begin with a right text, or with ""
+=>   = mend: begin with a right text (as ##/##), or with ""
 "###;
 
 #[test]
@@ -124,13 +124,13 @@ const LONG_STARTS: &str = r###"input code 2 1 10 3 any "abcd"
 =>   |
 => 5 | input code 2 1 10 3 any "abcd"
 =>   |                         ^^^^^^ 4 characters, but at most 3 can be typed
-=>   = mend: begin with a right text, or with ""
+=>   = mend: begin with a right text (at most 3 characters), or with ""
 input code 2 1 10 3 range 1 999 "0123"
 => form.tvd:5:33: F13: the first text of this input can't be typed there
 =>   |
 => 5 | input code 2 1 10 3 range 1 999 "0123"
 =>   |                                 ^^^^^^ 4 characters, but at most 3 can be typed
-=>   = mend: begin with a right text, or with ""
+=>   = mend: begin with a right text (a number from 1 to 999), or with ""
 "###;
 
 #[test]

@@ -336,7 +336,7 @@ input code 2 1 8 120 any "@"
 =>   |
 => 5 | input code 2 1 8 120 any "@"
 =>   |                          & 121 characters, but at most 120 can be typed
-=>   = mend: begin with a right text, or with ""
+=>   = mend: begin with a right text (at most 120 characters), or with ""
 => form.tvd:5:26: F15: a text of this input is too long
 =>   |
 => 5 | input code 2 1 8 120 any "@"
@@ -347,7 +347,7 @@ input code 2 1 8 4 range 1 9 "@"
 =>   |
 => 5 | input code 2 1 8 4 range 1 9 "@"
 =>   |                              & 121 characters, but at most 4 can be typed
-=>   = mend: begin with a right text, or with ""
+=>   = mend: begin with a right text (a number from 1 to 9), or with ""
 => form.tvd:5:30: F15: a text of this input is too long
 =>   |
 => 5 | input code 2 1 8 4 range 1 9 "@"
@@ -358,7 +358,7 @@ input code 2 1 8 4 filter "x" "@"
 =>   |
 => 5 | input code 2 1 8 4 filter "x" "@"
 =>   |                               & 121 characters, but at most 4 can be typed
-=>   = mend: begin with a right text, or with ""
+=>   = mend: begin with a right text (at most 4 characters, each of x), or with ""
 => form.tvd:5:31: F15: a text of this input is too long
 =>   |
 => 5 | input code 2 1 8 4 filter "x" "@"
