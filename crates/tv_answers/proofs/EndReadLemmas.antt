@@ -182,7 +182,7 @@ module _ (d : Desc) (can : CanBeSpelled d) (sound : IsSound d) (place : ℕ) (di
 
   -- ---- its name
 
-  own_logged : logged_name d dialog.node.id ≡ (dialog_head dialog).name
+  pub own_logged : logged_name d dialog.node.id ≡ (dialog_head dialog).name
   own_logged = ap name_of_node (All-head (λ node. node_of (all_nodes d) node.id ≡ Some node) dialog.node dialog.views found) ∙ ap (λ o. unwrap_or o []) (head_named dialog.node.kind dialog.own_kind)
 
   pub own_name : IsName (logged_name d dialog.node.id)

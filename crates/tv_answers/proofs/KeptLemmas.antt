@@ -42,7 +42,7 @@ pub record IsKept (d : Desc) (Has : Answers → Type 0) : Type 0 where
   pub commands : (place : ℕ) (command : Command) (a : Answers) → Has a → Has (with_command place command a)
   pub entries : (place : ℕ) (view : Node) (value : Value) (a : Answers) → IsEntered d place view value → Has a → Has (with_entry place view.id value a)
 
-read_stand : (line : List ℕ) (o : Option (List Word)) → line_words line ≡ o → IfSome o (λ ws. AllByRecursion Stands ws)
+pub read_stand : (line : List ℕ) (o : Option (List Word)) → line_words line ≡ o → IfSome o (λ ws. AllByRecursion Stands ws)
 read_stand line None e = tt
 read_stand line (Some []) e = tt
 read_stand line (Some (w ∷ ws)) e = (words_stand line w ws (line_spelled line (w ∷ ws) e)).0

@@ -25,4 +25,14 @@ pub mod ToldReadLemmas
 pub mod ScreenLemmas
 pub mod TextReadLemmas
 pub mod RunReadLemmas
+pub mod AllowedLemmas
+pub mod WorkStepLemmas
+pub mod AllowedStepLemmas
+pub mod EnabledLemmas
+pub mod EndedLemmas
+pub mod CharacterLemmas
+pub mod TypedLemmas
+pub mod SpelledCharLemmas
+pub mod TypedRunLemmas
+pub mod ReadScriptLemmas
 pub mod Examples

@@ -33,8 +33,8 @@ use Rattle.tv_machine.specs.Dialog.Ending.{field_line, fields_of}
 use Rattle.tv_machine.specs.Dialog.Modal.{Modal, content_at}
 use Rattle.tv_machine.specs.Dialog.Sound.{IsSoundDialog}
 use Rattle.tv_machine.specs.Leaves.{PlacedNode, leaf_list}
-use Rattle.tv_machine.specs.Output.{colors_text, item_text, session_after, shot_text, states, texts}
-use Rattle.tv_machine.specs.Run.{Session, quiet}
+use Rattle.tv_machine.specs.Output.{output, colors_text, item_text, session_after, shot_text, states, texts}
+use Rattle.tv_machine.specs.Run.{Session, quiet, started}
 use Rattle.tv_machine.specs.Safe.{HasValueOf, field_ids}
 use Rattle.tv_machine.specs.Session.Commands.{modal_of}
 use Rattle.tv_machine.specs.Session.Start.{closed, start, started_at, started_by}
@@ -59,8 +59,8 @@ use Rattle.tv_answers.specs.declared.answers.Answer.{Answer}
 use Rattle.tv_answers.specs.declared.answers.Answers.{Answers}
 use Rattle.tv_answers.specs.declared.progress.Progress.{Progress}
 use Rattle.tv_answers.specs.declared.progress.Block.TheVariants.{Saved}
-use Rattle.tv_answers.specs.Laws.{AreCharacters, HasCharacters, LogIsRead, dialogs_saved, last_end, lines_after, saving_end}
-use Rattle.tv_answers.specs.ReadLogs.{answers_of, changed_at, no_answer, nothing_read, passed, with_command}
+use Rattle.tv_answers.specs.Laws.{HasCharacters, answers_of_run, dialogs_saved, last_end, lines_after, logged, saving_end}
+use Rattle.tv_answers.specs.ReadLogs.{answers_in, answers_of, changed_at, no_answer, nothing_read, passed, with_command}
 use Rattle.tv_answers.proofs.DialogsSavedLemmas.{answer_of, dialog_id, end_ends, last_append, none_ends, old_at, put_again, saved_changed, saved_same}
 use Rattle.tv_answers.proofs.EndReadLemmas.{IsTypedEntry, after_end, all_at, end_lines_read, end_text_is, found, ids_apart}
 use Rattle.tv_answers.proofs.LogNameLemmas.{all_left, all_right, all_unmap, head_named, pairs_right, pairs_unmap}
@@ -72,6 +72,11 @@ use Rattle.tv_answers.proofs.TextReadLemmas.{TextIsRead, colors_read, log_text_r
 use Rattle.tv_answers.proofs.ToldLemmas.{IsClean, IsNamed, IsTold, told_before}
 use Rattle.tv_answers.proofs.ToldReadLemmas.{IsRead, read_append, told_read}
 use Rattle.tv_answers.proofs.ToldSessionLemmas.{HasNames, start_good, step_good}
+
+-- the texts of fields are of characters
+abbrev pub AreCharacters : LogLine → Type 0
+AreCharacters (lines.Field i value) = HasCharacters value
+AreCharacters _ = Unit {0}
 
 -- ---- the fields of an open dialog
 
@@ -109,10 +114,10 @@ unsaved [] = refl
 unsaved (d ∷ ds) = ap (λ rest. no_answer ∷ rest) (unsaved ds)
 
 module _ (d : Desc) (can : CanBeSpelled d) (sound : IsSound d) where
-  dialogs : HasSoundDialogs d
+  pub dialogs : HasSoundDialogs d
   dialogs = sound_dialogs d can.1.can sound
 
-  names : HasNames d
+  pub names : HasNames d
   names = names_of d can sound
 
   other_ids : AllPairs (λ x y. (y.node.id.0 == x.node.id.0) ≡ false) d.dialogs
@@ -131,7 +136,7 @@ module _ (d : Desc) (can : CanBeSpelled d) (sound : IsSound d) where
       let named = head_named x.node.kind x.own_kind in
       others (dialog_head x).name named (subst (λ (node : Node). HasName node (dialog_head x).name) one named))
 
-  ids : AreApart (map dialog_id d.dialogs)
+  pub ids : AreApart (map dialog_id d.dialogs)
   ids = apart_ids d.dialogs other_ids
 
   -- ---- what is answered so far
@@ -349,7 +354,7 @@ module _ (d : Desc) (can : CanBeSpelled d) (sound : IsSound d) where
       let b = opens-beside d dialogs (closed d) (closed_kept d dialogs) place (closed d) (All-nil IsNoEnd, refl, refl, refl) in
       (b.log, b.saved)
 
-  begun_by : (name : Option (List ℕ)) → IsBegun (started_by d name)
+  pub begun_by : (name : Option (List ℕ)) → IsBegun (started_by d name)
   begun_by None = (All-nil IsNoEnd, refl)
   begun_by (Some name) = begun_at (position (is_named name) d.dialogs)
 
@@ -368,8 +373,8 @@ module _ (d : Desc) (can : CanBeSpelled d) (sound : IsSound d) where
   whole_lines : (text : List ℕ) (p q : Progress) (x : TextIsRead d p text q) → lines_of text ≡ x.lines
   whole_lines text p q x = ap lines_of (sym (append-nil text)) ∙ x.split [] ∙ append-nil x.lines
 
-  pub log_is_read : LogIsRead d
-  log_is_read script has =
+  pub characters_read : (script : List Item) → All AreCharacters (logged d script) → answers_in d (output (started d) script) ≡ Some (answers_of_run d script)
+  characters_read script has =
       let log = (start d).log in
       let rest = lines_after d (start d) script in
       let t = run_read script log (nothing_read d) (start d) (start-fit d dialogs) (start_good d names).1 (all_right AreCharacters log rest has) start_holds in

@@ -1,10 +1,14 @@
 -- What answers and logs come to, as laws.
-use lib.Utf8.{scalars}
+use lib.Utf8.{scalar, scalars}
 use Rattle.std.specs.Prelude.{◌≡◌, ℕ, true, not, ◌&&◌, List, [], ◌∷◌, ◌++◌, slice_get, Option, Some, None, unwrap_or, All, IsTrue}
 use Rattle.std.specs.Prelude.{◌==◌, if◌then◌else◌}
 use Rattle.std.specs.Option.{option_or}
 use Rattle.tv_event.specs.Commands.{cm_cancel}
 use Rattle.tv_event.specs.declared.event.Command.{Command}
+use Rattle.tv_event.specs.declared.event.Event.{Event}
+use Rattle.tv_event.specs.declared.event.Event.TheVariants as events
+use Rattle.tv_event.specs.declared.event.Key.{Key}
+use Rattle.tv_event.specs.declared.event.Key.TheVariants as keys
 use Rattle.tv_model.specs.declared.desc.Desc.{Desc}
 use Rattle.tv_model.specs.declared.desc.Dialog.{Dialog}
 use Rattle.tv_model.specs.declared.log.LogLine.{LogLine}
@@ -89,10 +93,24 @@ lines_after d s (items.Colors ∷ rest) = lines_after d s rest
 abbrev pub logged : Desc → List Item → List LogLine
 logged d script = (start d).log ++ lines_after d (start d) script
 
--- the texts of fields are of characters
-abbrev pub AreCharacters : LogLine → Type 0
-AreCharacters (lines.Field i value) = HasCharacters value
-AreCharacters _ = Unit {0}
+-- a key types a character, if it types: the numbers in a definition may be any
+abbrev pub KeyTypes : Key → Type 0
+KeyTypes (keys.Char ch) = IsTrue (scalar ch)
+KeyTypes _ = Unit {0}
+
+-- an event does
+abbrev pub EventTypes : Event → Type 0
+EventTypes (events.Key k) = KeyTypes k
+EventTypes _ = Unit {0}
+
+-- an item of a script does, as each does that was read
+abbrev pub IsTyped : Item → Type 0
+IsTyped (items.Event e) = EventTypes e
+IsTyped _ = Unit {0}
+
+-- all items of a script do
+abbrev pub TypesCharacters : List Item → Type 0
+TypesCharacters script = All IsTyped script
 
 -- the command by which a line ends the dialog, unless that cancels
 abbrev pub saving_end : Id → LogLine → Option Command
@@ -111,14 +129,15 @@ dialogs_saved log (dialog ∷ dialogs) (saved ∷ rest) =
     record { command = last_end dialog.node.id log; entries = unwrap_or saved [] } ∷ dialogs_saved log dialogs rest
 dialogs_saved log _ _ = []
 
--- what a run writes for a script answers, without a misfit, what it saved in the end, each dialog with the
--- command of its last end but `cancel`
+-- what a run saved for a script in the end, each dialog with the command of its last end but `cancel`
+abbrev pub answers_of_run : Desc → List Item → Answers
+answers_of_run d script = record {
+  dialogs = dialogs_saved (logged d script) d.dialogs (after (started d) script).state.saved;
+  misfits = [];
+}
+
+-- what it writes answers just that, without a misfit
 abbrev pub LogIsRead : Desc → Type 0
 LogIsRead d =
-    (script : List Item) → All AreCharacters (logged d script)
-    → answers_in d (output (started d) script)
-    ≡ Some
-    (record {
-      dialogs = dialogs_saved (logged d script) d.dialogs (after (started d) script).state.saved;
-      misfits = [];
-    })
+    (script : List Item) → TypesCharacters script
+    → answers_in d (output (started d) script) ≡ Some (answers_of_run d script)

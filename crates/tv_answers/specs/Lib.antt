@@ -7,3 +7,4 @@ pub mod ReadLogs
 pub mod Outcomes
 pub mod Filling
 pub mod Laws
+pub mod Scripts

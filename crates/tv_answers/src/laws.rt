@@ -1,6 +1,7 @@
 //! What answers and logs come to, as contracts.
 
 ghost use Rattle.tv_answers.specs.Laws.{EndsAreRead, LogIsRead, OpenAsAnswered};
+ghost use Rattle.tv_answers.specs.Scripts.{ReadsTyped};
 ghost use Rattle.tv_lang.specs.CanonicalDescription.{CanBeSpelled};
 ghost use Rattle.tv_model.specs.Faults.{IsSound};
 
@@ -27,4 +28,10 @@ pub fn log_is_read(_desc: &Desc)
     requires spelled { CanBeSpelled _desc.now }
     requires sound { IsSound _desc.now }
     ensures { LogIsRead _desc.now }
+{}
+
+/// A theorem, as a function without a body: what is read of a script types characters, so that the laws of logs ask nothing
+/// of such a script.
+pub fn script_is_typed(_text: &[u8])
+    ensures { ReadsTyped _text.now }
 {}

@@ -1,4 +1,4 @@
-use Rattle.tv_answers.proofs.RunReadLemmas.{log_is_read}
+use Rattle.tv_answers.proofs.TypedRunLemmas.{log_is_read}
 use Rattle.tv_answers.proofs.laws.log_is_read.Goals as goal
 
 pub returns : goal.returns
