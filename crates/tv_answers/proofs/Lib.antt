@@ -35,4 +35,8 @@ pub mod TypedLemmas
 pub mod SpelledCharLemmas
 pub mod TypedRunLemmas
 pub mod ReadScriptLemmas
+pub mod NumberedLemmas
+pub mod LaterLogLemmas
+pub mod LaterDialogLemmas
+pub mod AgainLemmas
 pub mod Examples

@@ -24,7 +24,7 @@ use Rattle.tv_answers.specs.declared.answers.Answer.{Answer}
 use Rattle.tv_answers.specs.declared.answers.Answers.{Answers}
 use Rattle.tv_answers.specs.Filling.{filled_dialogs, with_start, with_value_found, with_value_of, with_values_of}
 use Rattle.tv_answers.specs.Laws.{OpenAsAnswered}
-use Rattle.tv_answers.specs.ReadLogs.{changed_at, is_field_named, no_answer}
+use Rattle.tv_answers.specs.ReadLogs.{answers_in, changed_at, is_field_named, no_answer}
 use Rattle.tv_answers.proofs.BegunLemmas.{Begins, private_begun, value_begins}
 use Rattle.tv_answers.proofs.KeptLemmas.{IsEntered, IsKept, answers_keep}
 use Rattle.tv_answers.proofs.SpelledLemmas.{same_pane}
@@ -184,8 +184,20 @@ begun (first ∷ dialogs) (answer ∷ given) (suc place) dialog all is =
     let x = begun dialogs given place dialog all.1 is in
     record { answer = x.answer; answered = x.answered; fits = x.fits; there = x.there }
 
-pub open_as_answered : (d : Desc) (text : List ℕ) → CanBeSpelled d → OpenAsAnswered d text
-open_as_answered d text can a place dialog is there =
+-- the dialog at a place begins with its answer, and opens so
+pub record IsFilledAt (d : Desc) (a : Answers) (place : ℕ) (dialog : Dialog) : Type 0 where
+  pub answer : Answer
+  pub answered : slice_get a.dialogs place ≡ Some answer
+  pub there : slice_get (filled_dialogs d.dialogs a.dialogs) place ≡ Some (with_values_of answer.entries dialog)
+  pub leaves : opened_leaves (with_values_of answer.entries dialog) None ≡ opened_leaves dialog (Some answer.entries)
+
+pub filled_at : (d : Desc) (text : List ℕ) → CanBeSpelled d → (a : Answers) (place : ℕ) (dialog : Dialog) → answers_in d text ≡ Some a → slice_get d.dialogs place ≡ Some dialog → IsFilledAt d a place dialog
+filled_at d text can a place dialog is there =
     let rise = views_rise d can.1.can in
     let x = begun d.dialogs a.dialogs place dialog (answers_keep d (λ (given : Answers). AllFit d.dialogs given.dialogs) (fit_kept d rise) text a (none_fit d.dialogs) is) there in
-    record { answer = x.answer; answered = x.answered; begun = with_values_of x.answer.entries dialog; there = x.there; leaves = opens dialog x.answer.entries x.fits }
+    record { answer = x.answer; answered = x.answered; there = x.there; leaves = opens dialog x.answer.entries x.fits }
+
+pub open_as_answered : (d : Desc) (text : List ℕ) → CanBeSpelled d → OpenAsAnswered d text
+open_as_answered d text can a place dialog is there =
+    let x = filled_at d text can a place dialog is there in
+    record { answer = x.answer; answered = x.answered; begun = with_values_of x.answer.entries dialog; there = x.there; leaves = x.leaves }

@@ -7,4 +7,5 @@ pub mod ReadLogs
 pub mod Outcomes
 pub mod Filling
 pub mod Laws
+pub mod Again
 pub mod Scripts

@@ -1,5 +1,6 @@
 //! What answers and logs come to, as contracts.
 
+ghost use Rattle.tv_answers.specs.Again.{EndAgain};
 ghost use Rattle.tv_answers.specs.Laws.{EndsAreRead, LogIsRead, OpenAsAnswered};
 ghost use Rattle.tv_answers.specs.Scripts.{ReadsTyped};
 ghost use Rattle.tv_lang.specs.CanonicalDescription.{CanBeSpelled};
@@ -28,6 +29,14 @@ pub fn log_is_read(_desc: &Desc)
     requires spelled { CanBeSpelled _desc.now }
     requires sound { IsSound _desc.now }
     ensures { LogIsRead _desc.now }
+{}
+
+/// A theorem, as a function without a body: where the description is filled with what such a log answers, each dialog that
+/// is opened and given its last end but `cancel` ends by that, and logs it again with the record that the run saved.
+pub fn log_is_answered(_desc: &Desc)
+    requires spelled { CanBeSpelled _desc.now }
+    requires sound { IsSound _desc.now }
+    ensures { EndAgain _desc.now }
 {}
 
 /// A theorem, as a function without a body: what is read of a script types characters, so that the laws of logs ask nothing
