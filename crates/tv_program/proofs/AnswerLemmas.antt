@@ -1,5 +1,5 @@
 -- Runs that give dialogs their ends, one after the other, and what is written of them.
-use Rattle.std.proofs.Common.{◌≡◌, ◌⊎◌, Bool, true, false, cond, ℕ, List, [], ◌∷◌, ◌++◌, Option, Some, None, map, Result, Ok, Err, IsErrAnd, refl, sym, ap, subst, ◌∙◌, append_assoc, inl, inr, arith}
+use Rattle.std.proofs.Common.{◌≡◌, ◌⊎◌, Bool, true, false, cond, ℕ, List, [], ◌∷◌, ◌++◌, Option, Some, map, Result, Ok, Err, IsErrAnd, refl, sym, ap, subst, ◌∙◌, append_assoc, inl, inr, arith}
 use Rattle.std.specs.List.{Contains, filter_map, find, zip}
 use Rattle.std.proofs.lemmas.List.{append-nil, map-append}
 use Rattle.std.proofs.lemmas.List.Elements.{Contains-append_right}
@@ -14,7 +14,7 @@ use Rattle.tv_program.specs.declared.answer_fault.AnswerFault.{AnswerFault}
 use Rattle.tv_program.specs.declared.answer_fault.AnswerFault.TheVariants as fails
 use Rattle.tv_program.specs.declared.answer_fault.Ending.{Ending}
 use Rattle.tv_program.specs.declared.answering.BegunRun.{BegunRun}
-use Rattle.tv_program.specs.Answering.{AllEnd, AnsweredRun, StaysOpen, ending_of, run_log, runs_log, stays_open, takes_end}
+use Rattle.tv_program.specs.Answering.{AnsweredRun, ending_of, run_log, runs_log, stays_open, takes_end}
 use Rattle.tv_program.specs.AnswerRuns.{AllEndBy, EndsAll, EndsBy, outcome_of, runs_of}
 
 -- ---- ends

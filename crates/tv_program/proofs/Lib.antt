@@ -10,3 +10,4 @@ pub mod DrawingLemmas
 pub mod PictureLemmas
 pub mod ShotLemmas
 pub mod BegunTextLemmas
+pub mod RunAnswerLemmas

@@ -3,6 +3,7 @@ use Rattle.std.specs.Prelude.{◌≡◌, ◌≢◌, ◌⊎◌, ℕ, Bool, true, 
 use Rattle.std.specs.Prelude.{Contains, Option, Some, None, is_some, option_map, Result, Ok, Err, if◌then◌else◌}
 use Rattle.tv_answers.specs.declared.answers.Answer.{Answer}
 use Rattle.tv_answers.specs.declared.answers.Answers.{Answers}
+pub use Rattle.tv_answers.specs.Again.{begun_text, begun_with}
 use Rattle.tv_answers.specs.Filling.{filled}
 use Rattle.tv_declarations.specs.CanonicalDescription.{description_text}
 use Rattle.tv_lang.specs.Faults.{Spells}
@@ -35,14 +36,6 @@ ending_of (dialog, answer) =
 -- the ends of all answered dialogs, in description order
 abbrev pub endings_of : Desc → Answers → List Ending
 endings_of d a = filter_map ending_of (zip d.dialogs a.dialogs)
-
--- the description, with the dialog of a name open at the start
-abbrev pub begun_with : Desc → List ℕ → Desc
-begun_with d name = record d { start = Some name }
-
--- its text
-abbrev pub begun_text : Desc → List ℕ → List ℕ
-begun_text d name = description_text (begun_with d name)
 
 -- what that text spells has it as its own canonical text: it is the description with the dialog open, but for the
 -- numbers of its lines

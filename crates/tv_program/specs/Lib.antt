@@ -12,6 +12,8 @@ pub mod AnswerFaults
 pub mod Answering
 -- Runs that are begun for ends
 pub mod AnswerRuns
+-- What answering with what a run wrote comes to
+pub mod RunAnswers
 -- What a run of a description and a script comes to
 pub mod Playing
 -- What is read of a description, and why it is refused
