@@ -1,0 +1,18 @@
+//! What events can reach in a dialog: goals, the rules that may hold, and what is never reached.
+#![tactic(auto)]
+
+mod answer;
+mod choices;
+mod closed;
+mod goal;
+mod mask;
+mod reached;
+mod shown;
+
+pub use answer::{Answer, Reason};
+pub use closed::is_closed;
+pub use goal::Goal;
+pub use mask::Mask;
+pub use reached::{
+    closed_holds, ends_are_given, marks_move, never_reached, runs_within, texts_move,
+};
