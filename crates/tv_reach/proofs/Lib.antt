@@ -1,0 +1,16 @@
+mod BitLemmas
+mod RuleSetLemmas
+mod PaneLemmas
+mod PutLemmas
+mod MoveLemmas
+mod HiddenLemmas
+mod MaskLemmas
+mod GiverLemmas
+mod FieldLemmas
+mod OpenStepLemmas
+mod WithinLemmas
+mod OpeningLemmas
+mod EndLemmas
+mod NeverLemmas
+mod StartLemmas
+mod ClosedLemmas

@@ -1,0 +1,7 @@
+use Rattle.tv_reach.specs.Shown.{starts_in}
+use Rattle.tv_reach.proofs.RuleSetLemmas.{IsFirstMaskOf}
+use Rattle.tv_reach.proofs.choices.starting_rules.Given as goal
+
+-- the rules before this place that pass
+abbrev pub invariant-loop-place : goal.invariant-loop-place
+invariant-loop-place l = IsFirstMaskOf (starts_in l.names l.node) l.rules l.place l.mask
