@@ -1,0 +1,43 @@
+-- W10: commands that do nothing where they are given.
+use Rattle.std.specs.Prelude.{Bool, true, false, List, ◌++◌, filter, flat_map, map}
+use Rattle.tv_model.specs.declared.command.CommandSpec.{CommandSpec}
+use Rattle.tv_model.specs.declared.command.CommandSpec.TheVariants as commands
+use Rattle.tv_model.specs.declared.desc.Desc.{Desc}
+use Rattle.tv_model.specs.declared.desc.MenuItem.{MenuItem}
+use Rattle.tv_model.specs.declared.kind.Kind.{Kind}
+use Rattle.tv_model.specs.declared.kind.Kind.TheVariants as kinds
+use Rattle.tv_model.specs.declared.node.Id.{Id}
+use Rattle.tv_model.specs.declared.node.Node.{Node}
+
+-- a menu is open only while no dialog is, so that nothing ends
+abbrev pub is_end_command : CommandSpec → Bool
+is_end_command commands.Ok = true
+is_end_command commands.Cancel = true
+is_end_command commands.Yes = true
+is_end_command commands.No = true
+is_end_command _ = false
+
+-- a dialog neither quits, nor opens menus, nor changes windows
+abbrev pub is_desktop_command : CommandSpec → Bool
+is_desktop_command commands.Quit = true
+is_desktop_command commands.Menu = true
+is_desktop_command commands.Next = true
+is_desktop_command _ = false
+
+-- a button that gives such a command
+abbrev pub is_idle_kind : Kind → Bool
+is_idle_kind (kinds.Button button) = is_desktop_command button.command
+is_idle_kind _ = false
+
+-- the menu items, by their ids
+abbrev pub idle_items : List MenuItem → List Id
+idle_items items = map (λ item. item.id) (filter (λ item. is_end_command item.command) items)
+
+-- the buttons
+abbrev pub idle_buttons : List Node → List Id
+idle_buttons views = map (λ view. view.id) (filter (λ view. is_idle_kind view.kind) views)
+
+-- all of a description: the menu items, and then the buttons
+abbrev pub idle_commands : Desc → List Id
+idle_commands d =
+    flat_map (λ menu. idle_items menu.items) d.menus ++ flat_map (λ dialog. idle_buttons dialog.views) d.dialogs

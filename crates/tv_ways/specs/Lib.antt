@@ -1,0 +1,6 @@
+-- texts of which a part is never shown
+pub mod Cuts
+-- commands that do nothing
+pub mod Idle
+-- what faces show of texts
+pub mod Seen

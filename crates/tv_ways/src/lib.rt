@@ -1,0 +1,10 @@
+//! What a description keeps from its users: texts that are cut, and commands that do nothing.
+#![tactic(auto)]
+
+mod cuts;
+mod idle;
+mod seen;
+
+pub use cuts::{Cut, Lost, cuts_of};
+pub use idle::idle_commands;
+pub use seen::cuts_are_lost;
