@@ -44,7 +44,7 @@ pub gone : {A : Type 0} (P : A → Type 0) (xs : List A) (i : ℕ) → length xs
 gone P xs i past passed = subst (All P) (take_all i xs past) passed
 
 -- what is so of each pair gives what is so of each first one
-zip_all : {A B : Type 0} (R : A → B → Type 0) (Q : B → Type 0) (S : A → Type 0) → ((x : A) (y : B) → R x y → Q y → S x)
+pub zip_all : {A B : Type 0} (R : A → B → Type 0) (Q : B → Type 0) (S : A → Type 0) → ((x : A) (y : B) → R x y → Q y → S x)
     → (xs : List A) (ys : List B) → AllZip R xs ys → All Q ys → All S xs
 zip_all R Q S gives [] ys zip all = All-nil S
 zip_all R Q S gives (x ∷ xs) [] zip all = absurd zip

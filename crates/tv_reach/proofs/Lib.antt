@@ -14,3 +14,4 @@ mod EndLemmas
 mod NeverLemmas
 mod StartLemmas
 mod ClosedLemmas
+mod FoundLemmas

@@ -12,3 +12,5 @@ pub mod Givers
 pub mod Runs
 -- what no event reaches
 pub mod Never
+-- what the code looks at
+pub mod Found

@@ -63,11 +63,14 @@ IsNeverFree d masks leaf = (is_control leaf.node.kind ≡ false) ⊎ All (λ mas
 abbrev pub GivesEnd : ℕ → PlacedNode → Type 0
 GivesEnd number leaf = option_map command_number (command_of leaf.node.kind) ≡ Some number
 
--- by the mask a control may be shown that is no button, so that Enter presses the default
+-- by the mask the leaf may be shown, and it is a control but no button
+abbrev pub IsFieldIn : Dialog → Mask → PlacedNode → Type 0
+IsFieldIn d mask leaf =
+    (is_control leaf.node.kind ≡ true) × (is_button leaf.node.kind ≡ false) × MayShow d leaf mask
+
+-- by the mask such a leaf may be shown, so that Enter presses the default
 abbrev pub MayShowField : Dialog → Mask → Type 0
-MayShowField d mask =
-    Any (λ leaf. (is_control leaf.node.kind ≡ true) × (is_button leaf.node.kind ≡ false) × MayShow d leaf mask)
-    (leaf_list d.views)
+MayShowField d mask = Any (IsFieldIn d mask) (leaf_list d.views)
 
 -- by the mask a button of the command may be pressed: it is enabled, and shown or pressed by Enter as the
 -- default
