@@ -2,8 +2,15 @@
 #![tactic(auto)]
 
 mod cuts;
+mod driver;
 mod idle;
+mod member;
+mod outline;
+mod path;
+mod plan;
 mod seen;
+mod walk;
+mod way;
 
 pub use cuts::{Cut, Lost, cuts_of};
 pub use idle::idle_commands;
