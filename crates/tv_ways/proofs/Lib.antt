@@ -1,1 +1,3 @@
 pub mod CutLemmas
+mod RunningLemmas
+mod SpelledLemmas

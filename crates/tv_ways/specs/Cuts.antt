@@ -1,4 +1,4 @@
--- W8 and W9: texts of which a part is never shown.
+-- Texts of which a part is never shown.
 use Rattle.std.specs.Prelude.{[], ℕ, Bool, false, not, ◌||◌, List, ◌∷◌, ◌++◌, drop, flat_map, Option, Some}
 use Rattle.std.specs.Prelude.{None, ◌+◌, ◌-◌, ◌==◌, nat_le, if◌then◌else◌}
 use Rattle.std.specs.List.{list_any}

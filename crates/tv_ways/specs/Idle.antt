@@ -1,4 +1,4 @@
--- W10: commands that do nothing where they are given.
+-- Commands that do nothing where they are given.
 use Rattle.std.specs.Prelude.{Bool, true, false, List, ◌++◌, filter, flat_map, map}
 use Rattle.tv_model.specs.declared.command.CommandSpec.{CommandSpec}
 use Rattle.tv_model.specs.declared.command.CommandSpec.TheVariants as commands

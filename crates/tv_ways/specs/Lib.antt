@@ -4,3 +4,7 @@ pub mod Cuts
 pub mod Idle
 -- what faces show of texts
 pub mod Seen
+-- runs of a description
+pub mod Running
+-- goals, and the answers to them
+pub mod Asking

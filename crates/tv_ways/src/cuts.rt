@@ -1,4 +1,4 @@
-//! W8 and W9: texts of which a part is never shown.
+//! Texts of which a part is never shown.
 
 ghost use Rattle.std.specs.Prelude.{◌≡◌, ◌==◌, ◌<◌, ◌-◌, ◌∷◌, ◌++◌, flat_map, length, position, IfOk, IfSome, OnOk, option_copied};
 ghost use Rattle.tv_faces.specs.Looks.{pieces_left};

@@ -1,4 +1,4 @@
-//! W10: commands that do nothing where they are given.
+//! Commands that do nothing where they are given.
 
 ghost use Rattle.std.specs.Prelude.{◌≡◌, ◌++◌, flat_map, IfOk, OnOk};
 ghost use Rattle.tv_ways.specs.Idle.{idle_buttons, idle_commands, idle_items, is_desktop_command, is_end_command, is_idle_kind};
