@@ -9,7 +9,7 @@ ghost use Rattle.tv_cells.specs.Canvas.{Covers, IsAt, IsInArea, IsShadow, sub};
 use crate::cell::Cell;
 use crate::line::{greater, place, visible};
 use crate::rect::{Point, Rect};
-use crate::screen::Screen;
+use crate::screen::{RowPart, Screen};
 
 /// Where cells are put: at places that are seen from an origin, and inside a clip.
 ///
@@ -66,7 +66,11 @@ impl Canvas {
         let end = (rect.b.x as i64 + x, rect.b.y as i64 + y);
         let area = self.area(screen, start, end);
         for row in area.top..area.bottom {
-            screen.shade_row(row, area.left, area.right);
+            screen.shade_row(RowPart {
+                row,
+                left: area.left,
+                right: area.right,
+            });
         }
     }
 

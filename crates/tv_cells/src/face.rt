@@ -10,7 +10,7 @@ ghost use Rattle.tv_cells.specs.Row.{IsRow};
 use crate::canvas::Canvas;
 use crate::cell::Cell;
 use crate::line::distance;
-use crate::screen::Screen;
+use crate::screen::{RowPart, Screen};
 
 /// What a rectangle shows, cell by cell. Columns and rows count from its corner.
 pub trait Face {
@@ -53,10 +53,15 @@ pub fn paint<F: Face>(screen: &mut Screen, canvas: Canvas, width: u32, height: u
     let from = distance(&canvas.origin.x, area.left);
     for row in area.top..area.bottom {
         let y = distance(&canvas.origin.y, row);
+        let part = RowPart {
+            row,
+            left: area.left,
+            right: area.right,
+        };
         if row > area.top && face.repeats(y) {
-            screen.copy_row_above(row, area.left, area.right);
+            screen.copy_row_above(part);
         } else {
-            screen.paint_row(face, y, from, row, area.left, area.right);
+            screen.paint_row(face, y, from, part);
         }
     }
 }

@@ -36,6 +36,14 @@ impl From<AllocError> for ScreenFault {
     }
 }
 
+/// The cells of a row from column `left` on and before `right`.
+#[derive(Clone, Copy)]
+pub(crate) struct RowPart {
+    pub row: u32,
+    pub left: u32,
+    pub right: u32,
+}
+
 /// The cells of a text screen. Columns count from the left and rows from the top, from 0.
 #[derive(Debug, Drop)]
 pub struct Screen {
@@ -142,48 +150,39 @@ impl Screen {
         self.cells[index] = cell;
     }
 
-    // Writes row `y` of a face, from its column `from` on, into a row of the screen, from column `left` on and before
-    // `right`.
-    pub(crate) fn paint_row<F: Face>(
-        &mut self,
-        face: &F,
-        y: u32,
-        from: u32,
-        row: u32,
-        left: u32,
-        right: u32,
-    )
-        requires across { (left ≤ right) × (right ≤ self.old.width) }
-        requires down { row < self.old.height }
-        requires face { from + right ≤ 2 ^ 32 }
-        ensures { Changes (IsInRow left right row) (λ column _ _. F.face face.now (from + (column - left)) y) self.old self.new }
+    // Writes row `y` of a face, from its column `from` on, into a part of a row of the screen.
+    pub(crate) fn paint_row<F: Face>(&mut self, face: &F, y: u32, from: u32, part: RowPart)
+        requires across { (part.left ≤ part.right) × (part.right ≤ self.old.width) }
+        requires down { part.row < self.old.height }
+        requires face { from + part.right ≤ 2 ^ 32 }
+        ensures { Changes (IsInRow part.left part.right part.row) (λ column _ _. F.face face.now (from + (column - part.left)) y) self.old self.new }
     {
-        let start = (row * self.width + left) as usize;
-        let end = (row * self.width + right) as usize;
+        let start = (part.row * self.width + part.left) as usize;
+        let end = (part.row * self.width + part.right) as usize;
         face.row(y, from, &mut self.cells[start..end]);
     }
 
-    // Copies the cells of the row above into a row, from column `left` on and before `right`.
-    pub(crate) fn copy_row_above(&mut self, row: u32, left: u32, right: u32)
-        requires across { (left ≤ right) × (right ≤ self.old.width) }
-        requires down { (0 < row) × (row < self.old.height) }
-        ensures { Changes (IsInRow left right row) (λ column _ _. cell_at self.old column (row - 1)) self.old self.new }
+    // Copies the cells of the row above into a part of a row.
+    pub(crate) fn copy_row_above(&mut self, part: RowPart)
+        requires across { (part.left ≤ part.right) × (part.right ≤ self.old.width) }
+        requires down { (0 < part.row) × (part.row < self.old.height) }
+        ensures { Changes (IsInRow part.left part.right part.row) (λ column _ _. cell_at self.old column (part.row - 1)) self.old self.new }
     {
-        let above = ((row - 1) * self.width + left) as usize;
-        let start = (row * self.width + left) as usize;
-        let count = (right - left) as usize;
+        let above = ((part.row - 1) * self.width + part.left) as usize;
+        let start = (part.row * self.width + part.left) as usize;
+        let count = (part.right - part.left) as usize;
         let (before, after) = self.cells.split_at_mut(start);
         after[..count].copy_from_slice(&before[above..above + count]);
     }
 
-    // Shades the cells of a row, from column `left` on and before `right`.
-    pub(crate) fn shade_row(&mut self, row: u32, left: u32, right: u32)
-        requires across { (left ≤ right) × (right ≤ self.old.width) }
-        requires down { row < self.old.height }
-        ensures { Changes (IsInRow left right row) (λ _ _ under. shaded under) self.old self.new }
+    // Shades the cells of a part of a row.
+    pub(crate) fn shade_row(&mut self, part: RowPart)
+        requires across { (part.left ≤ part.right) × (part.right ≤ self.old.width) }
+        requires down { part.row < self.old.height }
+        ensures { Changes (IsInRow part.left part.right part.row) (λ _ _ under. shaded under) self.old self.new }
     {
-        let start = (row * self.width + left) as usize;
-        let end = (row * self.width + right) as usize;
+        let start = (part.row * self.width + part.left) as usize;
+        let end = (part.row * self.width + part.right) as usize;
         shade_all(&mut self.cells[start..end]);
     }
 }

@@ -21,6 +21,13 @@ const LOOKED_THROUGH: usize = 4;
 /// Going on from the places of a row costs a step for so many of them.
 const GONE_ON: usize = 16;
 
+/// A part of the code, and the operation that joins it to what comes before.
+#[derive(Clone, Copy)]
+struct Joined<'a> {
+    part: &'a [Op],
+    op: Op,
+}
+
 /// Returns where the first part of the code ends, which is where the operation stands that joins it to what comes before.
 fn part_end(code: &[Op]) -> Option<usize>
     ensures { IfSome result (λ end. end < length code.now) }
@@ -109,7 +116,7 @@ fn code_after(first: Row, code: &[Op], text: &[char], steps: &mut usize) -> Opti
         } else {
             let (part, op, behind) = first_part(rest)?;
             spend(steps, part.len() / LOOKED_THROUGH)?;
-            row = joined_after(first, row, part, op, text, steps)?;
+            row = joined_after(first, row, Joined { part, op }, text, steps)?;
             rest = behind;
         }
     }
@@ -122,18 +129,17 @@ fn code_after(first: Row, code: &[Op], text: &[char], steps: &mut usize) -> Opti
 fn joined_after(
     first: Row,
     row: Row,
-    part: &[Op],
-    op: Op,
+    next: Joined<'_>,
     text: &[char],
     steps: &mut usize,
 ) -> Option<Row>
     requires { length text.now ≤ 120 }
     ensures { IfSome result (λ joined. (before : List Op) → Reads first before text.now row
-        → Reads first (before ++ (part.now ++ op ∷ [])) text.now joined) }
+        → Reads first (before ++ (next.entry.part.now ++ next.entry.op ∷ [])) text.now joined) }
 {
-    match op {
-        Op::Sequence => part_after(row, part, text, steps),
-        Op::Either => Some(row.join(code_after(first, part, text, steps)?)),
+    match next.op {
+        Op::Sequence => part_after(row, next.part, text, steps),
+        Op::Either => Some(row.join(code_after(first, next.part, text, steps)?)),
         _ => None,
     }
 }

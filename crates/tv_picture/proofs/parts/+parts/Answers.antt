@@ -24,12 +24,12 @@ code_after-loop-rest-preserved t c =
 pub joined_after-returns-in-Sequence : goal.joined_after-returns-in-Sequence
 joined_after-returns-in-Sequence t c =
     IfSome_then c.part_after.result c.part_after.ensures
-    (λ own q before p. subst (λ (op : Op). Reads c.args.first (before ++ (c.args.part.now ++ op ∷ [])) c.args.text.now own) (sym c.in-Sequence.is) (reads_sequence c.args.first c.args.row own before c.args.part.now c.args.text.now q p))
+    (λ own q before p. subst (λ (op : Op). Reads c.args.first (before ++ (c.args.next.part.now ++ op ∷ [])) c.args.text.now own) (sym c.in-Sequence.is) (reads_sequence c.args.first c.args.row own before c.args.next.part.now c.args.text.now q p))
 
 pub joined_after-returns-in_ok-code_after-in-Either : goal.joined_after-returns-in_ok-code_after-in-Either
 joined_after-returns-in_ok-code_after-in-Either t c = λ before p.
-    subst (λ (op : Op). Reads c.args.first (before ++ (c.args.part.now ++ op ∷ [])) c.args.text.now c.join.result) (sym c.in-Either.is)
-    (reads_either c.args.first c.args.row c.in_ok-code_after-in-Either.field-0 c.join.result before c.args.part.now c.args.text.now (c.join.ensures.ends, c.join.ensures.next) (c.in_ok-code_after-in-Either.ensures {u = tt}) p)
+    subst (λ (op : Op). Reads c.args.first (before ++ (c.args.next.part.now ++ op ∷ [])) c.args.text.now c.join.result) (sym c.in-Either.is)
+    (reads_either c.args.first c.args.row c.in_ok-code_after-in-Either.field-0 c.join.result before c.args.next.part.now c.args.text.now (c.join.ensures.ends, c.join.ensures.next) (c.in_ok-code_after-in-Either.ensures {u = tt}) p)
 
 pub many_after-returns-in-Some : goal.many_after-returns-in-Some
 many_after-returns-in-Some t c =

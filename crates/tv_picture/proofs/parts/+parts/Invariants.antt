@@ -8,7 +8,7 @@ abbrev pub decreases-code_after : goal.decreases-code_after
 decreases-code_after l = length l.code.now + length l.code.now
 
 abbrev pub decreases-joined_after : goal.decreases-joined_after
-decreases-joined_after l = length l.part.now + length l.part.now + 1
+decreases-joined_after l = length l.next.part.now + length l.next.part.now + 1
 
 abbrev pub decreases-part_after : goal.decreases-part_after
 decreases-part_after l = length l.part.now + length l.part.now

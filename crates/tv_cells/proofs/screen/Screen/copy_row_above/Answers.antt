@@ -11,10 +11,10 @@ returns c =
     let front = c.split_at_mut-before.ensures.front in
     let back = c.split_at_mut-before.ensures.back in
     let was = c.deref_mut.ensures.value in
-    let a = c.args.row * c.self.inside.width + c.args.left in
-    let k = c.args.right - c.args.left in
+    let a = c.args.part.row * c.self.inside.width + c.args.part.left in
+    let k = c.args.part.right - c.args.part.left in
     let count = rw (back, was) at c.copy_from_slice.ensures.len in
     let long : length (put_mid a k p.cells c.copy_from_slice.new.self) ≡ c.self.inside.cells.len = same_len_mid a k p.cells c.copy_from_slice.new.self count ∙ sym c.self.inside.cells.ok.0 in
     rw (← c.self.view_is, front, back, was, with_items_is c.self.inside.cells (put_mid a k p.cells c.copy_from_slice.new.self) long)
-    (changes_copied p c.args.row c.args.left c.args.right c.copy_from_slice.new.self c.self.invariant.full
+    (changes_copied p c.args.part.row c.args.part.left c.args.part.right c.copy_from_slice.new.self c.self.invariant.full
     (rw (← c.self.view_is) at c.requires.across) (rw (← c.self.view_is) at c.requires.down) (rw (front, was) at c.copy_from_slice.ensures.after))
