@@ -3,6 +3,7 @@
 
 mod device;
 mod file_reader;
+mod gathering;
 mod pen;
 mod read_fault;
 mod reader;
@@ -12,6 +13,7 @@ mod writer;
 
 pub use device::Device;
 pub use file_reader::FileReader;
+pub use gathering::Gathering;
 pub use pen::Pen;
 pub use read_fault::ReadFault;
 pub use reader::Reader;
