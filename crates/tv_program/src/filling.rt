@@ -5,7 +5,6 @@ ghost use Rattle.tv_answers.specs.declared.misfit.MisfitKind.TheVariants.{NoDial
 ghost use Rattle.tv_answers.specs.Misfits.{kind_text, misfit_text};
 ghost use Rattle.tv_io.specs.Pen.{Puts};
 ghost use Rattle.tv_lang.specs.CanonicalDescription.{CanBeSpelled};
-ghost use Rattle.tv_model.specs.Log.LogText.{end_word};
 ghost use Rattle.tv_program.specs.Filling.{FillsTo, RefusesSound, misfit_message, misfit_messages};
 ghost use Rattle.tv_program.specs.Reading.{IsSoundText};
 ghost use Rattle.tv_program.specs.Report.{IsOffered};
@@ -18,6 +17,7 @@ use tv_event::Command;
 use tv_io::{Pen, Writer, write_all};
 use tv_lang::{parse, print};
 use tv_model::Desc;
+use tv_script::end_word;
 use tv_valid::Chars;
 
 /// A log that answers, and the name under which what doesn't fit in it is told.
@@ -145,16 +145,4 @@ fn put_no_value<E: Writer>(pen: &mut Pen<E>, dialog: &Chars, field: &Chars)
     pen.put(b" of ");
     pen.put_chars(dialog.as_slice());
     pen.put(b" can't be so");
-}
-
-/// The word of a command that ends a dialog.
-pub(crate) fn end_word(command: Command) -> &'static [u8]
-    ensures { result.now ≡ end_word command.0 }
-{
-    match command {
-        Command::OK => b"ok",
-        Command::CANCEL => b"cancel",
-        Command::YES => b"yes",
-        _ => b"no",
-    }
 }

@@ -6,14 +6,13 @@ ghost use Rattle.tv_io.specs.Pen.{Puts};
 ghost use Rattle.tv_program.specs.Report.{IsOffered, answers_message, cert_message, disabled_message, fault_line, lang_message, lang_status, line_message, out_text, err_text, refusal_text, script_message, status_of, unended_message};
 
 use crate::answer_fault::Ending;
-use crate::filling::end_word;
 use crate::trouble::Trouble;
 use tv_answers::AnswersFault;
 use tv_check::{CertificateFault, Refusal};
 use tv_io::{Pen, Writer};
 use tv_lang::LangFault;
 use tv_model::Fault;
-use tv_script::ScriptFault;
+use tv_script::{ScriptFault, end_word};
 
 const SYNTAX: &[u8] = b": syntax at line ";
 

@@ -1,5 +1,5 @@
 -- The lines of events spell the script of these events.
-use Rattle.std.proofs.Common.{◌≡◌, ◌≢◌, ℕ, suc, ◌+◌, lit≤, ◌^◌, ◌<◌, ◌≤◌, nat_le, nat_lt, ◌==◌, Bool, true, false, cond, ◌&&◌, ◌||◌, List, [], ◌∷◌, ◌++◌, length, map, refl, sym, ap, subst, ◌∙◌, append_assoc, arith}
+use Rattle.std.proofs.Common.{◌≡◌, ◌≢◌, ℕ, suc, lit≤, ◌^◌, ◌<◌, ◌≤◌, nat_le, nat_lt, ◌==◌, Bool, true, false, cond, ◌&&◌, ◌||◌, List, [], ◌∷◌, ◌++◌, length, map, refl, sym, ap, subst, ◌∙◌, append_assoc, arith}
 use Rattle.std.specs.Prelude.{ℤ, pos, negsuc, IsAscii, IsTrue, codes, decimal, encode_utf8, encode_utf8_all}
 use Rattle.std.specs.Char.{is_ascii_digit, is_ascii_uppercase, is_control}
 use Rattle.std.specs.Fmt.{signed_decimal}
@@ -10,13 +10,12 @@ use Rattle.std.proofs.lemmas.Bool.{and_parts}
 use Rattle.std.proofs.lemmas.Bool.Decides.{nat_tests}
 use Rattle.std.proofs.lemmas.Fmt.{decimal_nonempty, digits_decimal}
 use Rattle.std.proofs.lemmas.List.{append-nil, length-map}
-use Rattle.std.proofs.lemmas.List.Concat.{flat_map-append}
 use Rattle.std.proofs.lemmas.Str.{IsAscii-append, encode_ascii, encodes-IsAscii, encodes-append}
 use Rattle.std.proofs.lemmas.Str.Ascii.{IsAscii-cons, IsAscii-nil}
 use Rattle.std.proofs.lemmas.Str.Parse.{IsNumeralModel, digit_from_value, numerals_by_value, tells_digits}
 use lib.Utf8.{scalar}
 use Rattle.tv_cells.specs.declared.rect.Point.{Point}
-use Rattle.tv_declarations.specs.Spelling.Keys.{IsKey, key_text}
+use Rattle.tv_declarations.specs.Spelling.Keys.{IsKey, key_name, key_text}
 use Rattle.tv_event.specs.declared.event.Event.{Event}
 use Rattle.tv_event.specs.declared.event.Event.TheVariants as events
 use Rattle.tv_event.specs.declared.event.Key.{Key}
@@ -27,7 +26,7 @@ use Rattle.tv_script.specs.Line.{Line}
 use Rattle.tv_script.specs.Line as lines
 use Rattle.tv_script.specs.Lines.{IsLine, IsPoint, is_on_screen, items_of, items_of_line, words_of_line}
 use Rattle.tv_script.specs.Scripts.{IsScript, SpellsAScript, script_words}
-use Rattle.tv_script.specs.Tapes.{IsPointOf, IsSayable, IsSayableKey, TapesAreScripts, event_line, key_line, point_line, script_text, script_with}
+use Rattle.tv_script.specs.Tapes.{IsPointOf, IsSayable, IsSayableKey, TapesAreScripts, event_line, key_line, key_rest, key_words, point_line, said, script_text, script_with}
 use Rattle.tv_words.proofs.CanonicalLineLemmas.{Stands, is_plain}
 use Rattle.tv_words.proofs.CanonicalTextLemmas.{StandInLine, stand_spelled}
 use Rattle.tv_words.specs.Canonical.{canonical_line, canonical_text, ended_line}
@@ -37,6 +36,17 @@ use Rattle.tv_words.specs.Texts.{EachSpells, declarations}
 use Rattle.tv_words.specs.Words.{escaped, is_bare}
 use Rattle.tv_words.specs.declared.word.Word.{Word}
 use Rattle.tv_words.specs.declared.word.Word.TheVariants.{Bare, Quoted}
+
+-- ---- lines
+
+-- a line is its words and the line end
+pub said_line : (keyword rest : List ℕ) → said keyword rest ++ 10 ∷ [] ≡ line_of keyword rest
+unfolding line_of said
+said_line keyword rest = refl
+
+pub key_line_words : (key : Key) → key_words key ++ 10 ∷ [] ≡ key_line key
+key_line_words (keys.Char ch) = said_line (codes "type ") (quoted_text (ch ∷ []))
+key_line_words key = said_line (codes "key ") (key_name key ++ key_rest key)
 
 -- ---- characters of bare words
 

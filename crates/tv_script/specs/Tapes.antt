@@ -17,7 +17,7 @@ use Rattle.tv_script.specs.Lines.{IsPoint, is_point_within}
 use Rattle.tv_script.specs.Scripts.{SpellsAScript}
 use lib.Utf8.{scalar}
 
--- ---- lines
+-- ---- words
 
 -- what follows the name of a key that has none of its own
 abbrev pub key_rest : Key → List ℕ
@@ -26,16 +26,38 @@ key_rest (keys.Function number) = codes "F" ++ decimal number
 key_rest (keys.Alt ch) = codes "Alt-" ++ encode_utf8 ch
 key_rest _ = []
 
+-- a keyword and what follows it
+unfoldable pub said : (keyword rest : List ℕ) → List ℕ
+said keyword rest = keyword ++ rest
+
 -- a key has its name, and a character is typed
+abbrev pub key_words : Key → List ℕ
+key_words (keys.Char ch) = said (codes "type ") (quoted_text (ch ∷ []))
+key_words key = said (codes "key ") (key_name key ++ key_rest key)
+
+-- a keyword and a point
+abbrev pub point_words : (keyword : List ℕ) → Point → List ℕ
+point_words keyword p = said keyword (signed_decimal p.x ++ codes " " ++ signed_decimal p.y)
+
+-- an event. No script has a command or a broadcast: users give none
+abbrev pub event_words : Event → List ℕ
+event_words (events.Key key) = key_words key
+event_words (events.Down p) = point_words (codes "down ") p
+event_words (events.Move p) = point_words (codes "move ") p
+event_words (events.Up p) = point_words (codes "up ") p
+event_words (events.Command command) = []
+event_words (events.Broadcast command) = []
+
+-- ---- lines
+
+-- the same, as a line of its own
 abbrev pub key_line : Key → List ℕ
 key_line (keys.Char ch) = line_of (codes "type ") (quoted_text (ch ∷ []))
 key_line key = line_of (codes "key ") (key_name key ++ key_rest key)
 
--- a keyword and a point
 abbrev pub point_line : (keyword : List ℕ) → Point → List ℕ
 point_line keyword p = line_of keyword (signed_decimal p.x ++ codes " " ++ signed_decimal p.y)
 
--- the line of an event. No script has a command or a broadcast: users give none
 abbrev pub event_line : Event → List ℕ
 event_line (events.Key key) = key_line key
 event_line (events.Down p) = point_line (codes "down ") p

@@ -44,8 +44,15 @@ fn put_name_line<W: Writer>(pen: &mut Pen<W>, desc: &Desc, word: &[u8], id: Id)
     ensures { Puts W.seen pen.old pen.new (line_of word.now (name_text desc.now id)) }
 {
     pen.put(word);
-    pen.put_chars(name(desc, id));
+    put_name(pen, desc, id);
     pen.put(b"\n");
+}
+
+/// Writes the name of a node, if it has one.
+pub fn put_name<W: Writer>(pen: &mut Pen<W>, desc: &Desc, id: Id)
+    ensures { Puts W.seen pen.old pen.new (name_text desc.now id) }
+{
+    pen.put_chars(name(desc, id));
 }
 
 fn name(desc: &Desc, id: Id) -> &[char]
@@ -75,14 +82,14 @@ fn put_end<W: Writer>(pen: &mut Pen<W>, desc: &Desc, id: Id, command: Command)
     ensures { Puts W.seen pen.old pen.new (log_line desc.now (lines.End id command)) }
 {
     pen.put(b"end ");
-    pen.put_chars(name(desc, id));
+    put_name(pen, desc, id);
     pen.put(b" ");
     pen.put(end_word(command));
     pen.put(b"\n");
 }
 
-// The word of a command that ends a dialog.
-fn end_word(command: Command) -> &'static [u8]
+/// Returns the word of a command that ends a dialog.
+pub fn end_word(command: Command) -> &'static [u8]
     ensures { result.now ≡ end_word command.0 }
 {
     match command {
@@ -97,7 +104,7 @@ fn put_field<W: Writer>(pen: &mut Pen<W>, desc: &Desc, id: Id, value: &Value)
     ensures { Puts W.seen pen.old pen.new (log_line desc.now (lines.Field id value.now)) }
 {
     pen.put(b"field ");
-    pen.put_chars(name(desc, id));
+    put_name(pen, desc, id);
     pen.put(b" ");
     put_value(pen, value);
     pen.put(b"\n");
@@ -107,7 +114,7 @@ fn put_moved<W: Writer>(pen: &mut Pen<W>, desc: &Desc, id: Id, corner: Point)
     ensures { Puts W.seen pen.old pen.new (log_line desc.now (lines.Moved id corner)) }
 {
     pen.put(b"moved ");
-    pen.put_chars(name(desc, id));
+    put_name(pen, desc, id);
     pen.put(b" ");
     pen.put_signed(corner.x);
     pen.put(b" ");
@@ -160,7 +167,8 @@ fn put_each_escaped<W: Writer>(pen: &mut Pen<W>, text: &[char])
     }
 }
 
-fn put_escaped_char<W: Writer>(pen: &mut Pen<W>, ch: char)
+/// Writes a character as it stands between quotes: `"` and `\` are escaped.
+pub fn put_escaped_char<W: Writer>(pen: &mut Pen<W>, ch: char)
     ensures { Puts W.seen pen.old pen.new (escaped_in_log ch) }
 {
     match ch {

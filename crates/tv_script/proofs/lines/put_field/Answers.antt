@@ -1,10 +1,9 @@
-use Rattle.std.proofs.Common.{ap}
-use Rattle.tv_model.specs.Log.LogText.{bytes_of, line_of}
-use Rattle.tv_io.proofs.PenLemmas.{Puts-then, Puts-along}
+use Rattle.tv_model.specs.Log.LogText.{line_of}
+use Rattle.tv_io.proofs.PenLemmas.{Puts-then}
 use Rattle.tv_script.proofs.lines.put_field.Goals as goal
 
 pub returns : goal.returns
 unfolding line_of
 returns g c =
-    let name = Puts-along (ap bytes_of c.name.ensures) c.put_chars.ensures in
+    let name = c.put_name.ensures in
     Puts-then (Puts-then c.put.ensures (Puts-then (Puts-then name c.put-2.ensures) c.put_value.ensures)) c.put-3.ensures
