@@ -15,6 +15,7 @@ pub use app::App;
 pub use control::Control;
 pub use fault::OpenFault;
 pub use making::{views, views_by};
+pub use names::dialog_place;
 pub use opening::open;
 pub use setting::{SetFault, Unset};
 pub use tv_cells::{Point, Rect, Screen};

@@ -23,7 +23,7 @@ fn is_called(view: &Node, name: &str) -> bool
 }
 
 /// Finds the place of the first dialog of the name, counted from 0.
-pub(crate) fn dialog_place(desc: &Desc, name: &str) -> Option<usize>
+pub fn dialog_place(desc: &Desc, name: &str) -> Option<usize>
     ensures { result ≡ position (is_named name.now) desc.now.dialogs }
 {
     desc.dialogs
