@@ -3,6 +3,7 @@
 use crate::advice::Advice;
 use crate::note::Note;
 use crate::unread::Unread;
+use crate::warning::Warning;
 use serde::Serialize;
 use serde_json::Error;
 use std::alloc::{AllocError, Global};
@@ -27,6 +28,17 @@ struct Members<'a> {
     form: Option<&'a str>,
 }
 
+/// What is told of a warning. The script has a line for each event of the way.
+#[derive(Drop, Serialize)]
+struct WarningMembers<'a> {
+    length: usize,
+    label: &'a str,
+    message: &'a str,
+    other: Option<Other<'a>>,
+    mend: Option<&'a str>,
+    script: Option<&'a str>,
+}
+
 fn other_of(note: &Note) -> Other<'_> {
     Other {
         line: note.line,
@@ -37,7 +49,7 @@ fn other_of(note: &Note) -> Other<'_> {
 }
 
 // Writes members behind others, and ends the object and the line.
-fn members_text(alloc: Global, members: &Members) -> Result<String, AllocError> {
+fn members_text<M: Serialize>(alloc: Global, members: &M) -> Result<String, AllocError> {
     let object = object(serde_json::to_string(alloc, members))?;
     let members = object.strip_prefix("{").unwrap_or("}");
     format!(in alloc; ",{members}\n")
@@ -70,6 +82,19 @@ pub fn unread_members(alloc: Global, unread: &Unread) -> Result<String, AllocErr
         other: unread.other.as_ref().map(other_of),
         mend: unread.mend.as_ref().map(String::as_str),
         form: unread.form,
+    };
+    members_text(alloc, &members)
+}
+
+/// Writes the members that a warning has behind its head, with a line end.
+pub fn warning_members(alloc: Global, warning: &Warning) -> Result<String, AllocError> {
+    let members = WarningMembers {
+        length: warning.own.len,
+        label: warning.own.label.as_str(),
+        message: warning.message.as_str(),
+        other: warning.other.as_ref().map(other_of),
+        mend: warning.mend.as_ref().map(String::as_str),
+        script: warning.met.as_ref().map(|met| met.script.as_str()),
     };
     members_text(alloc, &members)
 }

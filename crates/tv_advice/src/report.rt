@@ -7,12 +7,13 @@ use crate::advice::Advice;
 use crate::colour::{Colour, shown_in};
 use crate::heads::head;
 use crate::index::Index;
-use crate::json::{advice_members, unread_members};
+use crate::json::{advice_members, unread_members, warning_members};
 use crate::manner::Manner;
 use crate::note::Note;
 use crate::source::Source;
 use crate::spans::line_in;
 use crate::unread::Unread;
+use crate::warning::Warning;
 use std::alloc::{AllocError, Global};
 
 // Puts a head before the rest of a block.
@@ -47,6 +48,23 @@ pub fn advice_block(
         Manner::Plain | Manner::Coloured => advice_lines(alloc, source, index, advice)?,
     };
     block_of(alloc, source, &advice.own, &fault, &rest)
+}
+
+/// Writes what is told of a warning, which is called so.
+pub fn warning_block(
+    alloc: Global,
+    source: &Source,
+    index: &Index,
+    code: &str,
+    warning: &Warning,
+) -> Result<String, AllocError>
+    ensures { IfOk result (λ block. IsBlockAt source.now.manner source.now.name.now warning.now.own.line code.now (string_bytes block)) }
+{
+    let rest = match source.manner {
+        Manner::Json => warning_members(alloc, warning)?,
+        Manner::Plain | Manner::Coloured => warning_lines(alloc, source, index, warning)?,
+    };
+    block_of(alloc, source, &warning.own, code, &rest)
 }
 
 /// Writes why one of these lines can't be read, or why it can't stand, the fault being called so.
@@ -86,6 +104,30 @@ impl Excerpt {
     }
 }
 
+// The message, and the lines of the text that have to do with it.
+fn noted_lines(
+    alloc: Global,
+    excerpt: Excerpt,
+    message: &str,
+    own: Shown,
+    other: Option<Shown>,
+) -> Result<String, AllocError> {
+    let mut told = format!(in alloc; ": {message}\n")?;
+    if let Some(other) = other {
+        push_note(alloc, &mut told, excerpt, other)?;
+    }
+    push_note(alloc, &mut told, excerpt, own)?;
+    Ok(told)
+}
+
+// The other line, as the index has it.
+fn other_shown<'a>(index: &Index<'a>, other: &'a Option<Note>) -> Option<Shown<'a>> {
+    match other {
+        Some(note) => Some(Shown::new(index.line(note.line), note, Mark::Other)),
+        None => None,
+    }
+}
+
 // The message, the lines of the text that have to do with the fault, and how to mend it.
 fn advice_lines(
     alloc: Global,
@@ -93,15 +135,31 @@ fn advice_lines(
     index: &Index,
     advice: &Advice,
 ) -> Result<String, AllocError> {
-    let mut told = format!(in alloc; ": {}\n", advice.message)?;
     let excerpt = Excerpt::new(source.manner, &advice.own, advice.other.as_ref());
-    if let Some(other) = &advice.other {
-        let shown = Shown::new(index.line(other.line), other, Mark::Other);
-        push_note(alloc, &mut told, excerpt, shown)?;
-    }
-    let shown = Shown::new(index.line(advice.own.line), &advice.own, Mark::Own);
-    push_note(alloc, &mut told, excerpt, shown)?;
+    let own = Shown::new(index.line(advice.own.line), &advice.own, Mark::Own);
+    let other = other_shown(index, &advice.other);
+    let mut told = noted_lines(alloc, excerpt, &advice.message, own, other)?;
     push_help(alloc, &mut told, excerpt, "mend", &advice.mend)?;
+    Ok(told)
+}
+
+// The message, the lines that have to do with it, a way to it, and how to mend it.
+fn warning_lines(
+    alloc: Global,
+    source: &Source,
+    index: &Index,
+    warning: &Warning,
+) -> Result<String, AllocError> {
+    let excerpt = Excerpt::new(source.manner, &warning.own, warning.other.as_ref());
+    let own = Shown::new(index.line(warning.own.line), &warning.own, Mark::Own);
+    let other = other_shown(index, &warning.other);
+    let mut told = noted_lines(alloc, excerpt, &warning.message, own, other)?;
+    if let Some(met) = &warning.met {
+        push_help(alloc, &mut told, excerpt, "seen by", &met.way)?;
+    }
+    if let Some(mend) = &warning.mend {
+        push_help(alloc, &mut told, excerpt, "mend", mend)?;
+    }
     Ok(told)
 }
 
@@ -112,14 +170,13 @@ fn unread_lines(
     lines: &[&str],
     unread: &Unread,
 ) -> Result<String, AllocError> {
-    let mut told = format!(in alloc; ": {}\n", unread.message)?;
     let excerpt = Excerpt::new(source.manner, &unread.own, unread.other.as_ref());
-    if let Some(other) = &unread.other {
-        let shown = Shown::new(line_in(lines, other.line), other, Mark::Other);
-        push_note(alloc, &mut told, excerpt, shown)?;
-    }
-    let shown = Shown::new(line_in(lines, unread.own.line), &unread.own, Mark::Own);
-    push_note(alloc, &mut told, excerpt, shown)?;
+    let own = Shown::new(line_in(lines, unread.own.line), &unread.own, Mark::Own);
+    let other = match &unread.other {
+        Some(note) => Some(Shown::new(line_in(lines, note.line), note, Mark::Other)),
+        None => None,
+    };
+    let mut told = noted_lines(alloc, excerpt, &unread.message, own, other)?;
     push_helps(alloc, &mut told, excerpt, unread)?;
     Ok(told)
 }

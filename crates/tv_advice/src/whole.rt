@@ -1,6 +1,6 @@
 //! All that there is to tell of a description.
 
-ghost use Rattle.std.specs.Prelude.{◌≡◌, ℕ, ◌<◌, ◌≤◌, length, IfOk, Ok, string_bytes};
+ghost use Rattle.std.specs.Prelude.{◌≡◌, ℕ, ◌<◌, ◌≤◌, length, IfOk, OnOk, Ok, string_bytes};
 ghost use Rattle.tv_lang.specs.CanonicalDescription.{CanBeSpelled};
 ghost use Rattle.tv_lang.specs.Faults.{Spells};
 ghost use Rattle.tv_advice.specs.Blocks.{AreUnreadBlocks, IsReportOn, IsUnreadReport, IsVersionBlock};
@@ -69,25 +69,32 @@ fn tell_faults(alloc: Global, source: &Source, desc: Desc) -> Result<Told, Alloc
     Ok(Told::Faulty(report_on(alloc, source, &desc, faults)?))
 }
 
-// Adds a block on a line that can't be read, if it is behind the last one of which is told. Returns the last one then.
+// Blocks on lines that can't be read, and the line of the last of them.
+#[derive(Drop)]
+struct UnreadBlocks {
+    report: String,
+    last: usize,
+}
+
+// Adds a block on a line that can't be read, if it is behind the last one of which is told.
 fn add_unread(
     alloc: Global,
     source: &Source,
     lines: &[&str],
-    report: &mut String,
-    last: usize,
+    blocks: &mut UnreadBlocks,
     unread: &Unread,
-) -> Result<usize, AllocError>
-    ensures { IfOk result (λ further. (first : ℕ)
-        → AreUnreadBlocks source.now.manner source.now.name.now first last (string_bytes report.old)
-        → AreUnreadBlocks source.now.manner source.now.name.now first further (string_bytes report.new)) }
+) -> Result<(), AllocError>
+    ensures { OnOk result ((first : ℕ)
+        → AreUnreadBlocks source.now.manner source.now.name.now first blocks.old.last (string_bytes blocks.old.report)
+        → AreUnreadBlocks source.now.manner source.now.name.now first blocks.new.last (string_bytes blocks.new.report)) }
 {
-    if unread.own.line <= last {
-        return Ok(last);
+    if unread.own.line <= blocks.last {
+        return Ok(());
     }
     let block = unread_block(alloc, source, lines, "syntax", unread)?;
-    report.push_str(&block)?;
-    Ok(unread.own.line)
+    blocks.report.push_str(&block)?;
+    blocks.last = unread.own.line;
+    Ok(())
 }
 
 /// Writes why the line of this number can't be read, and why lines behind it can't.
@@ -101,13 +108,13 @@ pub fn unread_report(
 {
     let lines = lines_of(alloc, source.text)?;
     let first = explain_line(alloc, language, source.text, line)?;
-    let mut report = unread_block(alloc, source, &lines, "syntax", &first)?;
+    let report = unread_block(alloc, source, &lines, "syntax", &first)?;
+    let mut blocks = UnreadBlocks { report, last: line };
     let further = explain_behind(alloc, language, source.text, line)?;
-    let mut last = line;
     for unread in &further {
-        last = add_unread(alloc, source, &lines, &mut report, last, unread)?;
+        add_unread(alloc, source, &lines, &mut blocks, unread)?;
     }
-    Ok(report)
+    Ok(blocks.report)
 }
 
 // Writes that the language has no such version.
