@@ -1,3 +1,4 @@
 pub mod CutLemmas
 mod RunningLemmas
 mod SpelledLemmas
+mod WordingLemmas

@@ -11,7 +11,7 @@ use Rattle.tv_model.specs.declared.log.LogLine.TheVariants as lines
 use Rattle.tv_model.specs.declared.node.Id.{Id}
 use Rattle.tv_model.specs.Description.Nodes.{is_control, node_of}
 use Rattle.tv_machine.proofs.LeafLemmas.{among-views, leaf_at-in, leaf_at-is}
-use Rattle.tv_machine.proofs.ListLemmas.{bool_cases, found-among, option_cases, same-id}
+use Rattle.tv_machine.proofs.ListLemmas.{bool_cases, found-among, id-itself, option_cases, same-id}
 use Rattle.tv_machine.specs.Dialog.Focus.{is_free_at, is_free_leaf}
 use Rattle.tv_machine.specs.Dialog.Modal.{leaf_at}
 use Rattle.tv_machine.specs.Dialog.Rules.{is_enabled, is_visible}
@@ -22,6 +22,7 @@ use Rattle.tv_machine.specs.State.{LeafState, OpenDialog, State}
 use Rattle.tv_laws.proofs.WorkLemmas.{get_all}
 use Rattle.tv_laws.specs.Runs.{IsFitOpen, IsFitState}
 use Rattle.tv_reach.specs.Goals.{IsOpenAt}
+use Rattle.tv_ways.specs.Refusing.{IsRefusedAt}
 use Rattle.tv_ways.specs.Running.{IsOnlyIn, IsReadAt, is_end_line}
 
 -- ---- one event more
@@ -118,3 +119,12 @@ focused d place i s sound fit only e =
     (λ found. option_map (λ (o : OpenDialog). o.focus) found ≡ Some i → s.dialog ≡ found → IsReadAt d place i s)
     (λ none f is. absurd cc)
     (λ o some f is. focused_open d place i s o sound only is (fit.«open» o is) cc) e refl
+
+-- an input has refused, and another control has the focus
+pub refused : (d : Desc) (place : ℕ) (focus input : Id) (s : State) → IsReadAt d place focus s → Contains s.log (lines.Invalid input)
+    → (focus.0 == input.0) ≡ false → IsRefusedAt d place input s
+refused d place focus input s read logged apart = record {
+  at = read.0.at;
+  logged = logged;
+  elsewhere = λ same. absurd (false≢true (sym (subst (λ (i : Id). (focus.0 == i.0) ≡ false) (sym (sym read.0.focus ∙ same)) apart) ∙ id-itself focus));
+}

@@ -8,3 +8,9 @@ pub mod Seen
 pub mod Running
 -- goals, and the answers to them
 pub mod Asking
+-- the words of answers
+pub mod Listing
+-- inputs that refuse an end while nobody sees them
+pub mod Refusing
+-- the words of events
+pub mod Wording

@@ -21,8 +21,8 @@ use tv_model::Desc;
 use tv_reach::{Answer, Goal, Reason, is_closed, never_reached, reason_against};
 use tv_valid::Sequence;
 
-// The run of the text at its start.
-fn start(alloc: Global, text: &[u8]) -> Result<Option<App>, AllocError>
+/// Begins a run of the text, if it spells a sound description.
+pub(crate) fn start(alloc: Global, text: &[u8]) -> Result<Option<App>, AllocError>
     ensures { IfOk result (λ found. IfSome found (λ app. (d : Declared) → IsSpelledSound text.now d → Runs app (started d))) }
 {
     match open(alloc, text) {

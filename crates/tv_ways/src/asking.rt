@@ -1,6 +1,7 @@
 //! Which ends and controls of a description users reach.
 
 ghost use Rattle.std.specs.Prelude.{◌≡◌, ◌++◌, IfOk, OnOk};
+ghost use Rattle.std.specs.List.{AllZip};
 ghost use Rattle.tv_app.specs.Opening.{IsSpelledSound};
 ghost use Rattle.tv_ways.specs.Asking.{AreAllWays, AreWays, IsWay, end_if, goals_of};
 
@@ -72,7 +73,26 @@ fn way_to(
     Ok(Way { goal, answer })
 }
 
-/// Answers of each goal in the dialog at the place, of the description that the text spells, whether events reach it.
+/// Answers whether events reach these goals in the dialog at the place, of the description that the text spells.
+pub fn ways_to(
+    alloc: Global,
+    text: &[u8],
+    desc: &Desc,
+    place: usize,
+    goals: &[Goal],
+) -> Result<Vec<Way>, AllocError>
+    requires spelled { IsSpelledSound text.now desc.now }
+    ensures { IfOk result (λ ways. AllZip (IsWay desc.now place) goals.now ways.items) }
+{
+    let mut ways = Vec::new(alloc);
+    for goal in goals {
+        let way = way_to(alloc, text, desc, place, *goal)?;
+        ways.push(way)?;
+    }
+    Ok(ways)
+}
+
+/// Answers so of each goal of the dialog at the place.
 pub fn ways_in(
     alloc: Global,
     text: &[u8],
@@ -83,13 +103,8 @@ pub fn ways_in(
     requires spelled { IsSpelledSound text.now desc.now }
     ensures { IfOk result (λ ways. AreWays desc.now place dialog.now ways.items) }
 {
-    let mut ways = Vec::new(alloc);
     let goals = goals_of(alloc, dialog)?;
-    for goal in goals.as_slice() {
-        let way = way_to(alloc, text, desc, place, *goal)?;
-        ways.push(way)?;
-    }
-    Ok(ways)
+    ways_to(alloc, text, desc, place, goals.as_slice())
 }
 
 /// Answers so of all dialogs.

@@ -141,6 +141,21 @@ impl<'a> Outline<'a> {
         })
     }
 
+    /// Returns the outline of the dialog without these rules.
+    pub(crate) fn without(&self, alloc: Global, rules: Mask) -> Result<Outline<'a>, AllocError> {
+        let mut leaves = Vec::from_slice(alloc, &self.leaves)?;
+        for leaf in leaves.iter_mut() {
+            leaf.shown_by = leaf.shown_by.without(rules);
+            leaf.enabled_by = leaf.enabled_by.without(rules);
+        }
+        Ok(Outline {
+            dialog: self.dialog,
+            leaves,
+            chosen: self.chosen,
+            marked: self.marked,
+        })
+    }
+
     /// Whether the leaf at the place is shown where these rules hold.
     pub(crate) fn is_shown(&self, place: usize, holding: Mask) -> bool {
         match self.leaves.get(place) {
@@ -165,6 +180,13 @@ impl<'a> Outline<'a> {
     /// Finds the place of the leaf of the id.
     pub(crate) fn place_of(&self, id: Id) -> Option<usize> {
         self.leaves.iter().position(|leaf| leaf.node.id == id)
+    }
+
+    /// Finds the place of the control of the id.
+    pub(crate) fn control_of(&self, id: Id) -> Option<usize> {
+        self.leaves
+            .iter()
+            .position(|leaf| leaf.node.id == id && leaf.node.kind.is_control())
     }
 
     /// Returns the rules that show and enable the leaf at the place.

@@ -64,8 +64,8 @@ fn is_only_in(desc: &Desc, place: usize, id: Id) -> bool
     true
 }
 
-// The control that has the focus, if the dialog at the place is open.
-fn focus_in(app: &App, place: usize) -> Option<Id>
+/// Returns the control that has the focus, if the dialog at the place is open.
+pub(crate) fn focus_in(app: &App, place: usize) -> Option<Id>
     ensures { IfSome result (λ i. (s : Session) → Runs app.now s → IsReadAt s.desc place i s.state) }
 {
     let focus = app.focus()?;

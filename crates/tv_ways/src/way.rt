@@ -9,13 +9,22 @@ use tv_event::{Command, Key};
 use tv_model::Desc;
 use tv_reach::{Goal, Mask, starts_outside};
 
+/// Which inputs that start with texts outside their domains are filled.
+#[derive(Clone, Copy, PartialEq, Eq)]
+enum Fills {
+    None,
+    /// Those that are shown on the way.
+    Shown,
+    /// All of them: the way shows each once.
+    All,
+}
+
 /// What has to hold before something is done last, and that.
 #[derive(Clone, Copy)]
 struct Try {
     rules: Mask,
     last: Last,
-    /// Whether all inputs have to hold texts of their domains.
-    fills: bool,
+    fills: Fills,
 }
 
 /// A search: the dialog, what is to be reached in it, and what all tries have in common.
@@ -33,20 +42,25 @@ impl Search<'_> {
     fn keys(&self, alloc: Global, attempt: Try) -> Result<Option<Vec<Key>>, AllocError> {
         let wish = Wish {
             rules: attempt.rules,
-            seen: if attempt.fills { &self.wrong } else { &[] },
+            seen: if attempt.fills == Fills::All {
+                &self.wrong
+            } else {
+                &[]
+            },
         };
         let Some(moves) = plan(alloc, self.outline, wish)? else {
             return Ok(None);
         };
         let mut driver = Driver::new(alloc, self.outline)?;
-        if attempt.fills {
+        let fills = attempt.fills != Fills::None;
+        if fills {
             driver.fill_shown(alloc)?;
         }
         for step in moves {
             if !driver.mark(alloc, step)? {
                 return Ok(None);
             }
-            if attempt.fills {
+            if fills {
                 driver.fill_shown(alloc)?;
             }
         }
@@ -73,6 +87,7 @@ fn add_givers(
     desc: &Desc,
     outline: &Outline,
     command: Command,
+    fills: Fills,
 ) -> Result<(), AllocError> {
     let enabling = outline.enabling(command);
     for (place, leaf) in outline.leaves.iter().enumerate() {
@@ -80,7 +95,7 @@ fn add_givers(
             tries.push(Try {
                 rules: leaf.shown_by.union(enabling),
                 last: Last::Press(place),
-                fills: true,
+                fills,
             })?;
         }
     }
@@ -89,7 +104,7 @@ fn add_givers(
             tries.push(Try {
                 rules: enabling,
                 last: Last::Key(item.key),
-                fills: true,
+                fills,
             })?;
         }
     }
@@ -97,7 +112,12 @@ fn add_givers(
 }
 
 // Adds Enter from each field, where it presses a button of the command.
-fn add_enters(tries: &mut Vec<Try>, outline: &Outline, command: Command) -> Result<(), AllocError> {
+fn add_enters(
+    tries: &mut Vec<Try>,
+    outline: &Outline,
+    command: Command,
+    fills: Fills,
+) -> Result<(), AllocError> {
     let presses = |leaf: &Leaf| leaf.is_default() && leaf.gives(command);
     if !outline.leaves.iter().any(presses) {
         return Ok(());
@@ -107,14 +127,14 @@ fn add_enters(tries: &mut Vec<Try>, outline: &Outline, command: Command) -> Resu
             tries.push(Try {
                 rules: leaf.shown_by.union(outline.enabling(command)),
                 last: Last::Enter(place),
-                fills: true,
+                fills,
             })?;
         }
     }
     Ok(())
 }
 
-// What may be done to reach the goal.
+// What may be done to reach the goal. Of what never has the focus a run doesn't tell whether it is shown.
 fn tries(
     alloc: Global,
     desc: &Desc,
@@ -128,12 +148,12 @@ fn tries(
         Goal::Opens => {}
         Goal::Ends(Command::CANCEL) => last = Last::Key(Key::Esc),
         Goal::Ends(command) => {
-            add_givers(&mut tries, desc, outline, command)?;
-            add_enters(&mut tries, outline, command)?;
+            add_givers(&mut tries, desc, outline, command, Fills::All)?;
+            add_enters(&mut tries, outline, command, Fills::All)?;
             return Ok(tries);
         }
         Goal::Focuses(id) | Goal::Shows(id) => {
-            let Some(place) = outline.place_of(id) else {
+            let Some(place) = outline.control_of(id) else {
                 return Ok(tries);
             };
             rules = outline.freeing(place);
@@ -143,7 +163,7 @@ fn tries(
     tries.push(Try {
         rules,
         last,
-        fills: false,
+        fills: Fills::None,
     })?;
     Ok(tries)
 }
@@ -161,13 +181,12 @@ fn wrong(alloc: Global, outline: &Outline) -> Result<Vec<usize>, AllocError> {
     Ok(wrong)
 }
 
-/// Looks for steps that reach the goal in the dialog of the outline, of the description. Each list that is returned may do so,
-/// and short ones come first.
-pub(crate) fn ways(
+// The steps by which each of these may be done, short ones first.
+fn all_steps(
     alloc: Global,
     desc: &Desc,
     outline: &Outline,
-    goal: Goal,
+    tries: &[Try],
 ) -> Result<Vec<Vec<Step>>, AllocError> {
     let mut ways = Vec::new(alloc);
     let Some(path) = opening(alloc, desc, outline.dialog)? else {
@@ -178,11 +197,37 @@ pub(crate) fn ways(
         path,
         wrong: wrong(alloc, outline)?,
     };
-    for attempt in tries(alloc, desc, outline, goal)? {
-        if let Some(steps) = search.steps(alloc, attempt)? {
+    for attempt in tries {
+        if let Some(steps) = search.steps(alloc, *attempt)? {
             ways.push(steps)?;
         }
     }
     ways.sort_by_key(|steps| steps.len())?;
     Ok(ways)
+}
+
+/// Looks for steps that reach the goal in the dialog of the outline, of the description. Each list that is returned may do so,
+/// and short ones come first.
+pub(crate) fn ways(
+    alloc: Global,
+    desc: &Desc,
+    outline: &Outline,
+    goal: Goal,
+) -> Result<Vec<Vec<Step>>, AllocError> {
+    let tries = tries(alloc, desc, outline, goal)?;
+    all_steps(alloc, desc, outline, &tries)
+}
+
+/// Looks for steps that end the dialog of the outline by the command as far as a user sees: what is hidden all the while isn't
+/// filled.
+pub(crate) fn ways_by_sight(
+    alloc: Global,
+    desc: &Desc,
+    outline: &Outline,
+    command: Command,
+) -> Result<Vec<Vec<Step>>, AllocError> {
+    let mut tries = Vec::new(alloc);
+    add_givers(&mut tries, desc, outline, command, Fills::Shown)?;
+    add_enters(&mut tries, outline, command, Fills::Shown)?;
+    all_steps(alloc, desc, outline, &tries)
 }
