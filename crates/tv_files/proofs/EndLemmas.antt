@@ -27,7 +27,7 @@ use Rattle.tv_program.specs.Terminal.PlaysText.{refused as refused_play, unbegun
 use Rattle.tv_files.specs.declared.done.Done.{Done}
 use Rattle.tv_files.specs.declared.no_task.NoTask.{NoTask}
 use Rattle.tv_files.specs.declared.task.Task.{Task}
-use Rattle.tv_files.specs.declared.task.Task.TheVariants.{Check, Accept, Run, Play, Record, Picture, PictureAll, Fill, Answer, Box, Explain, ExplainBoth, Version}
+use Rattle.tv_files.specs.declared.task.Task.TheVariants.{Check, Accept, Run, Play, Record, Picture, PictureAll, Fill, Answer, Box, Explain, ExplainBoth, Version, Warn, Way, Ways}
 use Rattle.tv_files.specs.Ends.{End}
 use Rattle.tv_files.specs.EndsWith.{EndsWith}
 use Rattle.tv_files.specs.Files.{Known}
@@ -174,6 +174,9 @@ module _ (P Q : Desc → Type 0) (weaker : (text : List ℕ) (d : Desc) → IsSo
   Performs-weaker (Box words) old new how end came = came
   Performs-weaker (Explain file manner) old new how end came = came
   Performs-weaker (ExplainBoth file other manner) old new how end came = came
+  Performs-weaker (Ways file) old new how end came = came
+  Performs-weaker (Way file wanted) old new how end came = came
+  Performs-weaker (Warn file manner denies) old new how end came = came
   Performs-weaker Version old new how end came = came
 
   -- how the program ends

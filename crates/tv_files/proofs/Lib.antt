@@ -4,3 +4,4 @@ pub mod FileLemmas
 pub mod TaskLemmas
 pub mod TellingLemmas
 pub mod RecordLemmas
+pub mod WaysLemmas

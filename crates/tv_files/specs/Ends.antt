@@ -22,12 +22,14 @@ use Rattle.tv_io.specs.declared.read_fault.ReadFault.{ReadFault}
 use Rattle.tv_io.specs.declared.read_fault.ReadFault.TheVariants as unread
 
 -- all was done; or there was a fault, with the path of the file that it is told of; or a picture or a tape
--- can't be written into the file of its path; or no box is made, for what the message says
+-- can't be written into the file of its path; or no box is made, for what the message says; or the end that is
+-- asked for isn't reached, for what the message says
 pub data End : Type 0 where
   ended : End
   faulted : Trouble → (path : List ℕ) → End
   unwritten : (path : List ℕ) → End
   unboxed : (message : List ℕ) → End
+  wayless : (path message : List ℕ) → End
 
 -- the end where the file of a tape can't be made
 abbrev pub end_of_tape : (script : List ℕ) → AlbumFault → End
@@ -40,6 +42,7 @@ end_of_failure (failures.Fault fault path) = faulted fault path.now
 end_of_failure (failures.Picture script number) = unwritten (shot_name script.now number)
 end_of_failure (failures.Box message) = unboxed (string_bytes message)
 end_of_failure (failures.Tape script) = unwritten script.now
+end_of_failure (failures.NoWay path message) = wayless path.now message.items
 
 -- the end that an answer tells
 abbrev pub end_of : {T : Type 0} → Result T Failure → End

@@ -26,5 +26,11 @@ pub mod Telling
 pub mod Unmade
 -- What a read of a terminal that gave no byte is
 pub mod Waits
+-- What warning of a description comes to
+pub mod Warning
+-- What asking for the way to one end of a dialog comes to
+pub mod Way
+-- What telling the ways of a description comes to
+pub mod Ways
 -- What is known of the system outside the program
 pub mod World

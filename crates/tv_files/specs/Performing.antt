@@ -5,7 +5,7 @@ use Rattle.tv_files.specs.declared.done.Done.{Done}
 use Rattle.tv_files.specs.declared.done.Done.TheVariants.{Whole}
 use Rattle.tv_files.specs.declared.task.Task.{Task}
 use Rattle.tv_files.specs.declared.task.Task.TheVariants.{Check, Accept, Run, Play, Picture, PictureAll}
-use Rattle.tv_files.specs.declared.task.Task.TheVariants.{Fill, Answer, Box, Explain, ExplainBoth, Record, Version}
+use Rattle.tv_files.specs.declared.task.Task.TheVariants.{Fill, Answer, Box, Explain, ExplainBoth, Record, Version, Warn, Way, Ways}
 use Rattle.tv_files.specs.Boxes.{WritesBox}
 use Rattle.tv_files.specs.Ends.{End}
 use Rattle.tv_files.specs.Explaining.{ExplainsFile, ExplainsFiles}
@@ -13,6 +13,9 @@ use Rattle.tv_files.specs.Filling.{AnswersFiles, FillsFiles}
 use Rattle.tv_files.specs.Picturing.{PicturesAll, PicturesFiles}
 use Rattle.tv_files.specs.Recording.{RecordsIn}
 use Rattle.tv_files.specs.Tasks.{AcceptsFiles, ChecksFile, PlaysFile, RunsFiles, TellsVersion}
+use Rattle.tv_files.specs.Warning.{WarnsFile}
+use Rattle.tv_files.specs.Way.{WayFile}
+use Rattle.tv_files.specs.Ways.{WaysFile}
 use Rattle.tv_files.specs.World.{KnownWorld, ports_of, written_of}
 use Rattle.tv_terminal.specs.declared.colour.Colours.{Colours}
 
@@ -63,5 +66,12 @@ PerformsTask Mismade (Explain file manner) old new how end =
 PerformsTask Mismade (ExplainBoth file beside manner) old new how end =
     IsQuiet old new
     × ExplainsFiles manner old.files new.files file.now beside.now old.out new.out how end
+PerformsTask Mismade (Ways file) old new how end =
+    IsQuiet old new × WaysFile old.files new.files file.now old.out new.out how end
+PerformsTask Mismade (Way file wanted) old new how end =
+    IsQuiet old new
+    × WayFile old.files new.files file.now wanted.dialog.now wanted.end old.out new.out how end
+PerformsTask Mismade (Warn file manner denies) old new how end =
+    IsQuiet old new × WarnsFile manner denies old.files new.files file.now old.out new.out how end
 PerformsTask Mismade Version old new how end =
     (new ≡ record old { out = new.out }) × (how ≡ Whole) × TellsVersion old.out new.out end

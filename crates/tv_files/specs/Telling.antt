@@ -9,7 +9,7 @@ use Rattle.tv_files.specs.declared.done.Done.TheVariants.{Whole, Faulty, BrokenO
 use Rattle.tv_files.specs.declared.no_task.NoTask.{NoTask}
 use Rattle.tv_files.specs.declared.no_task.NoTask.TheVariants as no_tasks
 use Rattle.tv_files.specs.Ends.{End}
-use Rattle.tv_files.specs.Ends.End.{ended, faulted, unboxed, unwritten}
+use Rattle.tv_files.specs.Ends.End.{ended, faulted, unboxed, unwritten, wayless}
 use Rattle.tv_files.specs.Streams.{IsWritten, Offers}
 
 -- what standard output is offered
@@ -18,6 +18,7 @@ out_told ended = []
 out_told (faulted fault path) = out_text fault
 out_told (unwritten path) = []
 out_told (unboxed message) = []
+out_told (wayless path message) = []
 
 -- the message of a picture that can't be written into the file of its path
 abbrev pub unwritten_message : (path : List ℕ) → List ℕ
@@ -27,6 +28,10 @@ unwritten_message path = line_of (codes "tvdlg: ") (codes "cannot write " ++ pat
 abbrev pub unboxed_message : (message : List ℕ) → List ℕ
 unboxed_message message = line_of (codes "tvdlg: ") (codes "box: " ++ message)
 
+-- the message where the end that is asked for isn't reached
+abbrev pub no_way_message : (path message : List ℕ) → List ℕ
+no_way_message path message = line_of (codes "tvdlg: ") (path ++ codes ": " ++ message)
+
 -- the message on standard error; that standard output failed is told below, where it is flushed
 abbrev pub err_told : End → List ℕ
 err_told ended = []
@@ -34,6 +39,7 @@ err_told (faulted Write path) = []
 err_told (faulted fault path) = err_text path fault
 err_told (unwritten path) = unwritten_message path
 err_told (unboxed message) = unboxed_message message
+err_told (wayless path message) = no_way_message path message
 
 -- the message where standard output failed
 abbrev pub cannot_write : List ℕ
@@ -47,6 +53,7 @@ status_told BrokenOff ended = 4
 status_told done (faulted fault path) = status_of fault
 status_told done (unwritten path) = 3
 status_told done (unboxed message) = 1
+status_told done (wayless path message) = 1
 
 -- standard output took all that was to be told, and the status is that of the end; or it failed, which is
 -- told too

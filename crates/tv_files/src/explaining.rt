@@ -78,7 +78,7 @@ fn how_found(found: &Option<Desc>) -> Done
 }
 
 // Writes what there is to tell of the text of a file. Returns the description that it spells where there is nothing.
-fn explain<W: Writer>(
+pub(crate) fn explain<W: Writer>(
     alloc: Global,
     inquiry: Inquiry<'_>,
     text: &[u8],

@@ -20,6 +20,8 @@ pub enum Failure<'a> {
     Box { message: String },
     /// What the user did can't be written into the file of this path.
     Tape { script: &'a str },
+    /// The end that is asked for isn't reached, for what the message says.
+    NoWay { path: &'a str, message: Vec<u8> },
 }
 
 impl<'a> Failure<'a> {

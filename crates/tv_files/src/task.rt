@@ -1,6 +1,7 @@
 //! What the program can be asked for.
 
 use tv_advice::Manner;
+use tv_event::Command;
 use tv_terminal::Colours;
 
 /// What the command line asks for. Paths are taken as they stand.
@@ -66,6 +67,21 @@ pub enum Task<'a> {
         beside: &'a str,
         manner: Manner,
     },
+    /// For each end and each control of a description a way to it, or why there is none.
+    Ways {
+        file: &'a str,
+    },
+    /// A script that leads to one end of a description.
+    Way {
+        file: &'a str,
+        wanted: Wanted<'a>,
+    },
+    /// What there is to warn of in a description.
+    Warn {
+        file: &'a str,
+        manner: Manner,
+        denies: bool,
+    },
     /// Which version of the program this is.
     Version,
 }
@@ -89,4 +105,13 @@ pub struct Answered<'a> {
 pub struct Inquiry<'a> {
     pub file: &'a str,
     pub manner: Manner,
+}
+
+/// An end that a way is asked for.
+#[derive(Clone, Copy, Debug, PartialEq, Eq)]
+pub struct Wanted<'a> {
+    /// The name of the dialog.
+    pub dialog: &'a str,
+    /// The command that ends it.
+    pub end: Command,
 }

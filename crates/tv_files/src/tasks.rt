@@ -19,6 +19,9 @@ use crate::file_store::FileStore;
 use crate::filling::fill_file;
 use crate::picturing::{picture_all, picture_file};
 use crate::recording::record_file;
+use crate::warning::warn_file;
+use crate::way::way_file;
+use crate::ways::ways_file;
 use crate::{Answered, Done, Inquiry, Scripted, Task, World};
 use std::alloc::Global;
 use tv_check::Checked;
@@ -115,6 +118,18 @@ pub fn perform<
         } => {
             let inquiry = Inquiry { file, manner };
             explain_files(&mut world.files, alloc, inquiry, beside, &mut world.out)
+        }
+        Task::Ways { file } => ways_file(&mut world.files, alloc, file, &mut world.out),
+        Task::Way { file, wanted } => {
+            way_file(&mut world.files, alloc, file, wanted, &mut world.out)
+        }
+        Task::Warn {
+            file,
+            manner,
+            denies,
+        } => {
+            let inquiry = Inquiry { file, manner };
+            warn_file(&mut world.files, alloc, inquiry, denies, &mut world.out)
         }
         Task::Version => whole(tell_version(&mut world.out)),
     }

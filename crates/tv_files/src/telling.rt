@@ -7,7 +7,7 @@ ghost use Rattle.tv_program.specs.Report.{IsOffered};
 ghost use Rattle.tv_files.specs.Ends.{done_in, end_of, end_of_failure};
 ghost use Rattle.tv_files.specs.declared.done.Done.TheVariants.{Whole};
 ghost use Rattle.tv_files.specs.Streams.{Offers};
-ghost use Rattle.tv_files.specs.Telling.{Tells, TellsNoTask, TellsUsage, err_told, no_memory, out_told, status_told, unboxed_message, unwritten_message};
+ghost use Rattle.tv_files.specs.Telling.{Tells, TellsNoTask, TellsUsage, err_told, no_memory, no_way_message, out_told, status_told, unboxed_message, unwritten_message};
 
 use crate::failure::Failure;
 use crate::stream::Stream;
@@ -121,6 +121,10 @@ fn tell_failure<O: Writer, E: Writer>(failure: &Failure<'_>, out: &mut O, err: &
             tell_untaped(script, err);
             OUTSIDE
         }
+        Failure::NoWay { path, message } => {
+            tell_no_way(path, message.as_slice(), err);
+            FAULTY
+        }
     }
 }
 
@@ -180,6 +184,27 @@ fn put_unboxed<W: Writer>(pen: &mut Pen<W>, message: &[u8])
 {
     pen.put(b"tvdlg: ");
     pen.put(b"box: ");
+    pen.put(message);
+    pen.put(b"\n");
+}
+
+// Tells why the end that is asked for isn't reached.
+fn tell_no_way<W: Writer>(path: &str, message: &[u8], err: &mut W)
+    ensures { IsOffered (W.seen err.old) (W.seen err.new) (no_way_message path.now message.now) }
+{
+    let mut pen = Pen {
+        out: err,
+        stopped: false,
+    };
+    put_no_way(&mut pen, path.as_bytes(), message);
+}
+
+fn put_no_way<W: Writer>(pen: &mut Pen<W>, path: &[u8], message: &[u8])
+    ensures { Puts W.seen pen.old pen.new (no_way_message path.now message.now) }
+{
+    pen.put(b"tvdlg: ");
+    pen.put(path);
+    pen.put(b": ");
     pen.put(message);
     pen.put(b"\n");
 }

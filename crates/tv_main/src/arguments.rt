@@ -1,125 +1,18 @@
 //! The command line.
 
+use crate::help::{
+    ANSWERS, BOXES, ENDS, EXPLANATIONS, PICTURES, SCRIPTS, STATUSES, TERMINALS, WARNINGS, WAYS,
+};
 use clap::error::ErrorKind;
 use clap::{Arg, ArgAction, ArgMatches, Command, Error};
 use std::alloc::{AllocError, Global};
-use tv_files::{Colours, Manner, NoTask, Task};
+use tv_files::{Colours, Command as Given, Manner, NoTask, Task, Wanted};
 
 /// What the program is at.
 const VERSION: &str = "1.0.0";
 
 /// The name of the subcommand whose words aren't read by clap.
 const BOX: &str = "box";
-
-/// The text below the help of the program and of each subcommand.
-const STATUSES: &str = "Statuses: 0 done; 1 faults, a refusal or a bad text; 2 usage; \
-    3 a file, a stream or memory failed; 4 the user left, or his input ended. Messages go to standard error, all else that is printed to standard output.\n\
-    Help goes to standard error too, with status 2.";
-
-/// What `run` does, and the lines of its scripts.
-const SCRIPTS: &str = "\
-Performs a script of keys and pictures on a description, and prints what happens
-
-A script has one of these on each line, or nothing, or # and a comment:
-  key NAME     a key: Tab, Shift-Tab, Enter, Esc, Up, Down, Left, Right, Home,
-               End, PgUp, PgDn, Ctrl-PgUp, Ctrl-PgDn, Backspace, Del, Ins,
-               Ctrl-A to Ctrl-Z, F1 to F12, Alt-A to Alt-Z, Alt-0 to Alt-9
-  type \"TEXT\"  each character as a key; \\\" is a quote, \\\\ a backslash
-  down X Y     the mouse button goes down on a cell; the top left one is 0 0
-  move X Y     the mouse moves to a cell
-  up X Y       the mouse button goes up on a cell
-  shot         prints the characters of the screen
-  colors       prints its attributes, two hexadecimal digits a cell
-
-Each line is performed when its end has come, and what it prints is passed on
-before more is read. So SCRIPT may be a pipe or a terminal, as /dev/stdin. At a
-faulty line the script is left; the lines before it were performed.";
-
-/// What `picture` prints, and where its pictures go.
-const PICTURES: &str = "\
-Performs a script on a description, and prints the screen that it leaves as SVG
-
-The script has the lines that `run` takes, but nothing of the log is printed, and
-nothing at a `shot` or `colors`. The screen is drawn in sixteen colours, with the
-cursor where an input has it. Redirect it into a file: tvdlg picture FILE SCRIPT
->PICTURE.svg.
-
-With --all nothing is printed, and the screen at each `shot` is drawn into a file
-beside the script: SCRIPT-1.svg, SCRIPT-2.svg and so on. What such a file held is
-lost. The script is read to its end before the first picture is drawn, and of one
-with a faulty line none is.";
-
-/// What `fill` prints, and the lines of answers.
-const ANSWERS: &str = "\
-Prints a description whose fields begin with answers
-
-ANSWERS is a log, as `run` and `play` print it, or lines written by hand:
-  end settings ok
-  field port \"443\"
-  field extras 2 3
-An `end` line begins what is answered of a dialog, and its `field` lines follow. A
-dialog that ended by cancel answers nothing. Of several answers to one field the
-last counts, so logs can be joined. What doesn't fit the description is told on
-standard error, and that field begins as it is declared.
-
-What is printed is a description: tvdlg fill FILE ANSWERS >FILLED.tvd.";
-
-/// What `answer` does.
-const ENDS: &str = "\
-Gives answered dialogs their ends without a user, and prints what happens
-
-ANSWERS is a log or lines of one, as `fill` takes it. Each dialog that it answers is
-opened with these answers in its fields, and given its `end` command as if a user
-had chosen it. Dialogs come in the order of the description. What is printed is the
-log of that, as `run` prints it, and so answers again.
-
-Nothing is done, and the status is 1, where something doesn't fit the description or
-nothing is answered. A dialog that doesn't end, because a field refuses or its rules
-disable the end, is told of with status 1; those before it were ended.";
-
-/// What `box` takes and prints.
-const BOXES: &str = "\
-Prints the description of a ready dialog, which the arguments of `dialog` ask for
-
-The options come first, then one box:
-  --title TEXT, --yes-label TEXT, --no-label TEXT, --ok-label TEXT,
-  --cancel-label TEXT, --defaultno, --default-item TAG
-  --yesno TEXT HEIGHT WIDTH
-  --msgbox TEXT HEIGHT WIDTH
-  --inputbox TEXT HEIGHT WIDTH [START]
-  --menu TEXT HEIGHT WIDTH ROWS {TAG ITEM}..
-  --checklist TEXT HEIGHT WIDTH ROWS {TAG ITEM on|off}..
-  --radiolist TEXT HEIGHT WIDTH ROWS {TAG ITEM on|off}..
-  --form TEXT HEIGHT WIDTH ROWS {LABEL Y X START Y X WIDTH MOST}..
-
-A size of 0 is as large as is needed. tools/tvask plays what is printed, and answers
-as `dialog` does.";
-
-/// What `explain` prints.
-const EXPLANATIONS: &str = "\
-Tells of each fault of a description where it is, why it is one and how to mend it
-
-Each is told as FILE:LINE:COLUMN: FAULT: MESSAGE, with the lines of the file that
-have to do with it. Lines are those of the file, comments and empty lines counted,
-where those that `check` prints count declarations alone. Of a description that
-can't be read the lines that are none are told. One without faults prints nothing.
-
-With BESIDE, a script or a certificate, a description without faults is passed
-over and that file is told of: its lines that can't be read, or the first whose
-point is off the screen. It is a certificate where its first word is tvcert. One
-that isn't the description's is refused as `accept` does.";
-
-/// What `play` does, and what it needs.
-const TERMINALS: &str = "\
-Plays a description in a terminal: keys and mouse come from standard input, the
-screen goes to standard error, and the log, as `run` prints it, to standard
-output. So a shell script has it by answer=$(tvplay FILE).
-
-The terminal is one of UTF-8 that is large enough for the description's screen.
-It has to be set before, by stty raw -echo min 0 time 1; tools/tvplay does that
-and sets it back. It ends after the command quit, where nothing is open and
-nothing can be opened, at Ctrl-\\ always, at Ctrl-C where no status item has that
-key, and at the end of standard input.";
 
 fn path<'a>(alloc: Global, name: &'a str, help: &'a str) -> Arg<'a> {
     Arg::new(alloc, name)
@@ -263,6 +156,64 @@ fn boxes<'a>(alloc: Global) -> Result<Command<'a>, AllocError> {
         .num_args(1..))
 }
 
+fn ways<'a>(alloc: Global) -> Result<Command<'a>, AllocError> {
+    subcommand(
+        alloc,
+        "ways",
+        "Prints for each end and each control of each dialog how a user comes to it",
+    )?
+    .long_about(WAYS)
+    .arg(
+        Arg::new(alloc, "DIALOG")
+            .action(ArgAction::Set)
+            .requires_arg("END")?
+            .help("The dialog of which the way to one end is wanted"),
+    )?
+    .arg(
+        Arg::new(alloc, "END")
+            .value_parser(["ok", "cancel", "yes", "no"].as_slice())
+            .action(ArgAction::Set)
+            .help("That end"),
+    )
+}
+
+fn warn<'a>(alloc: Global) -> Result<Command<'a>, AllocError> {
+    subcommand(
+        alloc,
+        "warn",
+        "Warns of what fails the users of a description without faults",
+    )?
+    .long_about(WARNINGS)
+    .arg(
+        Arg::new(alloc, "deny")
+            .long("deny")
+            .action(ArgAction::SetTrue)
+            .help("Ends with status 1 where there is a warning"),
+    )?
+    .arg(json(
+        alloc,
+        "Prints an object of JSON for each warning, one a line",
+    ))?
+    .arg(color(alloc))
+}
+
+fn json<'a>(alloc: Global, help: &'a str) -> Arg<'a> {
+    Arg::new(alloc, "json")
+        .long("json")
+        .action(ArgAction::SetTrue)
+        .help(help)
+}
+
+fn color<'a>(alloc: Global) -> Arg<'a> {
+    Arg::new(alloc, "color")
+        .long("color")
+        .value_name("WHEN")
+        .value_parser(["always", "never"].as_slice())
+        .default_value("never")
+        .action(ArgAction::Set)
+        .help("Prints in colours")
+}
+
 fn explain<'a>(alloc: Global) -> Result<Command<'a>, AllocError> {
     subcommand(
         alloc,
@@ -271,21 +222,8 @@ fn explain<'a>(alloc: Global) -> Result<Command<'a>, AllocError> {
     )?
     .long_about(EXPLANATIONS)
     .arg(beside(alloc))?
-    .arg(
-        Arg::new(alloc, "json")
-            .long("json")
-            .action(ArgAction::SetTrue)
-            .help("Prints an object of JSON for each fault, one a line"),
-    )?
-    .arg(
-        Arg::new(alloc, "color")
-            .long("color")
-            .value_name("WHEN")
-            .value_parser(["always", "never"].as_slice())
-            .default_value("never")
-            .action(ArgAction::Set)
-            .help("Prints in colours"),
-    )
+    .arg(json(alloc, "Prints an object of JSON for each fault, one a line"))?
+    .arg(color(alloc))
 }
 
 fn command<'a>(alloc: Global) -> Result<Command<'a>, AllocError> {
@@ -304,7 +242,9 @@ fn command<'a>(alloc: Global) -> Result<Command<'a>, AllocError> {
         .subcommand(fill(alloc)?)?
         .subcommand(answer(alloc)?)?
         .subcommand(boxes(alloc)?)?
-        .subcommand(explain(alloc)?)
+        .subcommand(explain(alloc)?)?
+        .subcommand(ways(alloc)?)?
+        .subcommand(warn(alloc)?)
 }
 
 /// Reads the task from the words of a command line, of which the first names the program, or returns what to report
@@ -380,6 +320,12 @@ fn named_task<'a>(name: &str, found: &ArgMatches<'a>) -> Option<Task<'a>> {
             answers: found.get_str("ANSWERS")?,
         }),
         "explain" => Some(explanation(file, found)),
+        "ways" => Some(way(file, found)),
+        "warn" => Some(Task::Warn {
+            file,
+            manner: manner(found),
+            denies: found.get_flag("deny"),
+        }),
         _ => None,
     }
 }
@@ -413,6 +359,29 @@ fn explanation<'a>(file: &'a str, found: &ArgMatches<'a>) -> Task<'a> {
             manner,
         },
         None => Task::Explain { file, manner },
+    }
+}
+
+// Both DIALOG and END stand there, or neither.
+fn way<'a>(file: &'a str, found: &ArgMatches<'a>) -> Task<'a> {
+    match (found.get_str("DIALOG"), found.get_str("END")) {
+        (Some(dialog), Some(end)) => Task::Way {
+            file,
+            wanted: Wanted {
+                dialog,
+                end: end_command(end),
+            },
+        },
+        _ => Task::Ways { file },
+    }
+}
+
+fn end_command(word: &str) -> Given {
+    match word {
+        "ok" => Given::OK,
+        "yes" => Given::YES,
+        "no" => Given::NO,
+        _ => Given::CANCEL,
     }
 }
 

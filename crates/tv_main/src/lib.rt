@@ -3,6 +3,7 @@
 
 mod arguments;
 mod boxing;
+mod help;
 mod starting;
 
 pub use arguments::{parse, read_task};

@@ -39,3 +39,12 @@ returns-in-ExplainBoth g c = rw c.in-ExplainBoth.is (refl, c.explain_files.ensur
 
 pub returns-in-Version : goal.returns-in-Version
 returns-in-Version g c = rw c.in-Version.is (refl, c.whole-in-Version.ensures.done, rw c.whole-in-Version.ensures.end c.tell_version.ensures)
+
+pub returns-in-Ways : goal.returns-in-Ways
+returns-in-Ways g c = rw c.in-Ways.is (refl, c.ways_file.ensures)
+
+pub returns-in-Way : goal.returns-in-Way
+returns-in-Way g c = rw c.in-Way.is (refl, c.way_file.ensures)
+
+pub returns-in-Warn : goal.returns-in-Warn
+returns-in-Warn g c = rw c.in-Warn.is (refl, c.warn_file.ensures)
