@@ -1,5 +1,5 @@
-//! Tests of what is told of descriptions without faults: texts that are cut, commands that do nothing, and whether events reach
-//! goals.
+//! Tests of what is told of descriptions without faults: texts that are cut, commands that do nothing, events that reach
+//! goals, and warnings.
 #![tactic(auto)]
 
 #[cfg(test)]
@@ -7,4 +7,6 @@ mod cuts;
 #[cfg(test)]
 mod idle;
 #[cfg(test)]
-mod reached;
+mod warnings;
+#[cfg(test)]
+mod ways;
