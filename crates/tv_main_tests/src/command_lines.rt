@@ -59,6 +59,16 @@ fn task_told(alloc: Global, task: Task<'_>) -> Result<String, AllocError> {
             beside,
             manner,
         } => format!(in alloc; "explains {file} and {beside}: {manner:?}\n"),
+        Task::Ways { file } => format!(in alloc; "tells the ways of {file}\n"),
+        Task::Way { file, wanted } => format!(in alloc;
+            "tells the way to {:?} of {} in {file}\n",
+            wanted.end, wanted.dialog
+        ),
+        Task::Warn {
+            file,
+            manner,
+            denies,
+        } => format!(in alloc; "warns of {file}: {manner:?}, {denies}\n"),
         Task::Version => format!(in alloc; "tells its version\n"),
     }
 }
@@ -117,6 +127,24 @@ tvdlg explain --color=always a.tvd a.cert
 => explains a.tvd and a.cert: Coloured
 tvdlg explain a.tvd --json a.tvs
 => explains a.tvd and a.tvs: Json
+tvdlg ways a.tvd
+=> tells the ways of a.tvd
+tvdlg ways a.tvd d ok
+=> tells the way to Command(10) of d in a.tvd
+tvdlg ways a.tvd d cancel
+=> tells the way to Command(11) of d in a.tvd
+tvdlg ways a.tvd d yes
+=> tells the way to Command(12) of d in a.tvd
+tvdlg ways a.tvd d no
+=> tells the way to Command(13) of d in a.tvd
+tvdlg warn a.tvd
+=> warns of a.tvd: Plain, false
+tvdlg warn --deny a.tvd
+=> warns of a.tvd: Plain, true
+tvdlg warn a.tvd --json --deny
+=> warns of a.tvd: Json, true
+tvdlg warn a.tvd --color always
+=> warns of a.tvd: Coloured, false
 tvdlg --version
 => tells its version
 tvdlg check -- -a.tvd
@@ -169,6 +197,18 @@ tvdlg explain --color=red a.tvd
 tvdlg explain --json
 => MissingRequiredArgument
 tvdlg explain a.tvd a.tvs a.cert
+=> UnknownArgument
+tvdlg ways
+=> MissingRequiredArgument
+tvdlg ways a.tvd d
+=> MissingRequiredArgument
+tvdlg ways a.tvd d help
+=> InvalidValue
+tvdlg ways a.tvd d ok ok
+=> UnknownArgument
+tvdlg warn
+=> MissingRequiredArgument
+tvdlg check --deny a.tvd
 => UnknownArgument
 ";
 

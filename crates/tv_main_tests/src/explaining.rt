@@ -73,7 +73,8 @@ const TASKS: [(Task<'static>, &str, &str, &str); 15] = [
     (EXPLAIN_MISSING, "tvd 3\n", "", VERSION_EXPLAINED),
 ];
 
-const SHARED_LETTER_EXPLAINED: &str = "FILE:8:18: F4: the letter C is marked twice in this dialog
+pub const SHARED_LETTER_EXPLAINED: &str =
+    "FILE:8:18: F4: the letter C is marked twice in this dialog
   |
 5 | button x 0 0 10 \"~C~ancel\" cancel
   |                  --- Alt-C is this one's
@@ -85,7 +86,7 @@ status 1
 opened 1
 ";
 
-const VERSION_EXPLAINED: &str = "FILE:1:5: version: the language has no version 3
+pub const VERSION_EXPLAINED: &str = "FILE:1:5: version: the language has no version 3
   |
 1 | tvd 3
   |     ^ the versions are 1 and 2

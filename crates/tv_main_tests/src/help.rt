@@ -31,6 +31,8 @@ Commands:
   answer   Gives answered dialogs their ends without a user, and prints what happens
   box      Prints the description of a ready dialog, which the arguments of `dialog` ask for
   explain  Tells of each fault of a description where it is, why it is one and how to mend it
+  ways     Prints for each end and each control of each dialog how a user comes to it
+  warn     Warns of what fails the users of a description without faults
   help     Print this message or the help of the given subcommand(s)
 
 Options:
@@ -314,6 +316,92 @@ Statuses: 0 done; 1 faults, a refusal or a bad text; 2 usage; 3 a file, a stream
 Help goes to standard error too, with status 2.
 ";
 
+const WAYS: &str = "\
+Prints for each end and each control of each dialog how a user comes to it
+
+Each is told in a line, under the name of its dialog:
+  end ok: key Alt-N; type \"3\"; key Alt-O
+  focus qty: key Tab
+  end yes: never (nothing gives it)
+The events are those of a script that begins at the start, and were tried. What is
+never reached is reached by no keys and no mouse, whatever a user does. Of a dialog
+with thousands of choices of radio buttons it may print `unknown`.
+
+With DIALOG and END it prints the script that leads to this end, for `run`. Where
+none does, it says so on standard error, with status 1.
+
+A description with faults is told of as `explain` does, with status 1.
+
+Usage: tvdlg ways <FILE> [DIALOG] [END]
+
+Arguments:
+  <FILE>
+          A description of windows and dialogs
+
+  [DIALOG]
+          The dialog of which the way to one end is wanted
+
+  [END]
+          That end
+          
+          [possible values: ok, cancel, yes, no]
+
+Options:
+  -h, --help
+          Print help (see a summary with '-h')
+
+Statuses: 0 done; 1 faults, a refusal or a bad text; 2 usage; 3 a file, a stream or memory failed; \
+4 the user left, or his input ended. Messages go to standard error, all else that is printed to standard output.
+Help goes to standard error too, with status 2.
+";
+
+const WARN: &str = "\
+Warns of what fails the users of a description without faults
+
+Each warning is told as `explain` tells of a fault:
+  W1   a dialog that nothing opens
+  W2   an end that no button and no status item gives
+  W3   an end whose buttons are never shown and enabled
+  W4   an end that an input refuses which is never shown
+  W5   a control that never gets the focus
+  W6   a label or a text that is never shown
+  W7   an end that a hidden input refuses, with events after which it does
+  W8   a text of which a part is cut off
+  W9   a marked letter that is cut off
+  W10  a menu item or a button whose command does nothing there
+What is told to be never so is so whatever a user does. A program may do more: give
+commands and set values of its own.
+
+Warnings are no faults: the status is 0, and with --deny 1 where there is one.
+A description with faults is told of as `explain` does, with status 1.
+
+Usage: tvdlg warn [OPTIONS] <FILE>
+
+Arguments:
+  <FILE>
+          A description of windows and dialogs
+
+Options:
+      --deny
+          Ends with status 1 where there is a warning
+
+      --json
+          Prints an object of JSON for each warning, one a line
+
+      --color <WHEN>
+          Prints in colours
+          
+          [default: never]
+          [possible values: always, never]
+
+  -h, --help
+          Print help (see a summary with '-h')
+
+Statuses: 0 done; 1 faults, a refusal or a bad text; 2 usage; 3 a file, a stream or memory failed; \
+4 the user left, or his input ended. Messages go to standard error, all else that is printed to standard output.
+Help goes to standard error too, with status 2.
+";
+
 #[test]
 fn whole_help(rt: HostRuntime) -> Result<(), Fail> {
     expect_rows(
@@ -330,6 +418,8 @@ fn whole_help(rt: HostRuntime) -> Result<(), Fail> {
             ("tvdlg answer --help", ANSWER),
             ("tvdlg box --help", BOX),
             ("tvdlg explain --help", EXPLAIN),
+            ("tvdlg ways --help", WAYS),
+            ("tvdlg warn --help", WARN),
         ],
     )
 }

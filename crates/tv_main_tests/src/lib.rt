@@ -45,3 +45,7 @@ mod system_files;
 mod user;
 #[cfg(test)]
 mod waits;
+#[cfg(test)]
+mod warnings;
+#[cfg(test)]
+mod ways;
