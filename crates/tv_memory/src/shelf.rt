@@ -1,0 +1,62 @@
+//! Files in memory.
+
+ghost use Rattle.std.specs.Prelude.{◌≡◌, None};
+ghost use Rattle.tv_memory.specs.Shelves.{text_at};
+
+use crate::memory_stream::MemoryStream;
+use std::alloc::Global;
+use tv_files::{AlbumFault, FileStore, ReadFault};
+use tv_io::FileReader;
+
+/// A text, and the path under which it is found.
+#[derive(Clone, Copy)]
+pub struct NamedText<'a> {
+    pub name: &'a [u8],
+    pub text: &'a [u8],
+}
+
+/// Two files. Where both have one path, the first is found there; at an empty path, and at any other, there is none. None can be
+/// made.
+#[derive(Drop)]
+pub struct Shelf<'a> {
+    first: NamedText<'a>,
+    second: NamedText<'a>,
+}
+
+impl<'a> Shelf<'a> {
+    /// Puts up the two files.
+    pub fn new(first: NamedText<'a>, second: NamedText<'a>) -> Shelf<'a>
+        ensures first { result.first ≡ first.entry }
+        ensures second { result.second ≡ second.entry }
+    {
+        Shelf { first, second }
+    }
+}
+
+impl<'a> FileStore for Shelf<'a> {
+    type File = FileReader<&'a [u8]>;
+
+    type Made = MemoryStream;
+
+    ghost known = { λ shelf. record {
+      contents = text_at shelf.first.name.now shelf.first.text.now shelf.second.name.now shelf.second.text.now;
+      opened = None;
+    } };
+
+    fn open(&mut self, path: &str) -> Result<FileReader<&'a [u8]>, ReadFault> {
+        let path = path.as_bytes();
+        if path.is_empty() {
+            Err(ReadFault::Read)
+        } else if path == self.first.name {
+            Ok(FileReader::new(self.first.text))
+        } else if path == self.second.name {
+            Ok(FileReader::new(self.second.text))
+        } else {
+            Err(ReadFault::Read)
+        }
+    }
+
+    fn make(&mut self, _alloc: Global, _path: &str) -> Result<MemoryStream, AlbumFault> {
+        Err(AlbumFault::Write)
+    }
+}
