@@ -1,0 +1,2 @@
+-- What the library tells of two files in memory
+pub mod Telling
