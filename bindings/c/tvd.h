@@ -1,0 +1,127 @@
+/* tvd.h: what the program tvdlg does with files, done with texts in memory. C11 or C++; link libtvd.a, libtvd.o or -ltvd. */
+#ifndef TVD_H
+#define TVD_H
+#include <stddef.h>
+#include <stdint.h>
+#include <stdlib.h>
+#include <string.h>
+#ifdef __cplusplus
+extern "C" {
+#endif
+
+/* The only export. It does what `tvdlg WORDS` does where the files `name` and `name2` hold `text` and `text2` and no other
+ * file can be read or made, and returns tvdlg's status: 0 done; 1 faults, a refusal or a bad text; 2 usage; 3 a file or
+ * memory failed; 4 nothing more came from the user, at once, for `play`.
+ *
+ * Each of the words, behind the program's name, ends with a NUL byte, the last one too. A file whose name is empty isn't there.
+ * What tvdlg writes on standard output becomes the front of `out`, if it fits, and `*out_used` says how many bytes it has.
+ * Where that is more than `out_size`, the room is as it was, and another call with more room gives the same. So it is with
+ * `err` and what tvdlg writes on standard error.
+ *
+ * What the library keeps is proved: `Tells` of crates/tvd/specs/Telling.antt, and that the call is safe and returns, whatever
+ * bytes it is given. That rests on what its caller keeps, and nothing checks:
+ * - No pointer is null, also where there are 0 bytes: pass "". Each is good for its bytes until the call returns.
+ * - Nothing that is written (`out`, `err` and the two counts) overlaps another of them, or what is read.
+ * - `malloc`, `realloc` and `free` of the program come from one allocator, which aligns as C asks.
+ * - It isn't called from a signal handler, or from the forked child of a process with threads.
+ * It keeps nothing between calls, so several threads may be in calls at once. */
+uint8_t tvd_tell(const void *words, size_t words_size, const void *name, size_t name_size, const void *text,
+                 size_t text_size, const void *name2, size_t name2_size, const void *text2, size_t text2_size,
+                 void *out, size_t out_size, size_t *out_used, void *err, size_t err_size, size_t *err_used);
+
+enum { TVD_DONE, TVD_FAULTY, TVD_USAGE, TVD_FAILED, TVD_LEFT };
+
+/* Below are functions over it that take room by `malloc`. They are not proved. */
+
+/* A file: its name, and its text of so many bytes. */
+typedef struct {
+  const char *name;
+  const void *text;
+  size_t size;
+} tvd_file;
+
+/* What came of a call. A NUL byte stands behind each text. The texts are null where there was no memory: status 3. */
+typedef struct {
+  int status;
+  char *out, *err;
+  size_t out_used, err_used;
+} tvd_told;
+
+static inline void tvd_free(tvd_told *told) {
+  free(told->out);
+  free(told->err);
+  told->out = told->err = NULL;
+}
+
+/* Does what the words ask for, of which a null pointer is the last. `beside` may be null. */
+static inline tvd_told tvd_ask(const char *const *words, const tvd_file *file, const tvd_file *beside) {
+  static const tvd_file none = {"", "", 0};
+  tvd_told told = {TVD_FAILED, NULL, NULL, 4095, 4095};
+  size_t size = 0, out_size = 0, err_size = 0;
+  char *line;
+  if (!file) file = &none;
+  if (!beside) beside = &none;
+  for (const char *const *word = words; *word; word++) size += strlen(*word) + 1;
+  if (!(line = (char *)malloc(size + 1))) return told;
+  size = 0;
+  for (const char *const *word = words; *word; size += strlen(*word++) + 1) strcpy(line + size, *word);
+  do {
+    tvd_free(&told);
+    out_size = told.out_used;
+    err_size = told.err_used;
+    told.out = (char *)malloc(out_size + 1);
+    told.err = (char *)malloc(err_size + 1);
+    told.status = TVD_FAILED;
+    if (!told.out || !told.err) {
+      tvd_free(&told);
+      break;
+    }
+    told.status = tvd_tell(line, size, file->name, strlen(file->name), file->text, file->size, beside->name,
+                           strlen(beside->name), beside->text, beside->size, told.out, out_size, &told.out_used,
+                           told.err, err_size, &told.err_used);
+  } while (told.out_used > out_size || told.err_used > err_size);
+  if (told.out) told.out[told.out_used] = told.err[told.err_used] = 0;
+  free(line);
+  return told;
+}
+
+/* `tvdlg check` of a description, which messages call `form`. */
+static inline tvd_told tvd_check(const void *text, size_t size) {
+  const char *words[] = {"check", "form", NULL};
+  tvd_file file = {"form", text, size};
+  return tvd_ask(words, &file, NULL);
+}
+
+/* `tvdlg explain`. */
+static inline tvd_told tvd_explain(const void *text, size_t size) {
+  const char *words[] = {"explain", "form", NULL};
+  tvd_file file = {"form", text, size};
+  return tvd_ask(words, &file, NULL);
+}
+
+/* A command on a description and the text beside it, which messages call `beside`. */
+static inline tvd_told tvd_both(const char *command, const void *text, size_t size, const void *beside, size_t beside_size) {
+  const char *words[] = {command, "form", "beside", NULL};
+  tvd_file file = {"form", text, size}, second = {"beside", beside, beside_size};
+  return tvd_ask(words, &file, &second);
+}
+
+/* `tvdlg accept` with a certificate. */
+static inline tvd_told tvd_accept(const void *text, size_t size, const void *certificate, size_t certificate_size) {
+  return tvd_both("accept", text, size, certificate, certificate_size);
+}
+
+/* `tvdlg run` of a script. */
+static inline tvd_told tvd_run(const void *text, size_t size, const void *script, size_t script_size) {
+  return tvd_both("run", text, size, script, script_size);
+}
+
+/* `tvdlg picture` after a script. */
+static inline tvd_told tvd_picture(const void *text, size_t size, const void *script, size_t script_size) {
+  return tvd_both("picture", text, size, script, script_size);
+}
+
+#ifdef __cplusplus
+}
+#endif
+#endif
