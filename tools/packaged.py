@@ -8,11 +8,13 @@ import sys
 import tempfile
 import textwrap
 
+import linked
+
 top = pathlib.Path(__file__).resolve().parent.parent
 
 PROGRAM = top / "crates/tvdlg/out/tvdlg"
 SCRIPTS = ("tvplay", "tvask")
-DOCUMENTS = ("docs/PROGRAM.md", "docs/LANGUAGE.md", "docs/FAULTS.md", "docs/GLOSSARY.md", "CHANGELOG.md")
+DOCUMENTS = ("docs/PROGRAM.md", "docs/LANGUAGE.md", "docs/FAULTS.md", "docs/GLOSSARY.md", "docs/LIBRARY.md", "CHANGELOG.md")
 SECTION = ".tvdlg.build"
 
 NO_LICENCE = """\
@@ -141,8 +143,24 @@ complete -o bashdefault -o default tvplay
 """
 
 
+def put_library(files):
+    """The library, its header and modules, where it is built."""
+    if not linked.ARCHIVE.exists():
+        print(f"without the library, since there is no {linked.ARCHIVE.relative_to(top)}")
+        return
+    with tempfile.TemporaryDirectory() as room:
+        linked.linked(linked.ARCHIVE, room)
+        linked.copy_bindings(room)
+        places = {"libtvd.a": "lib", linked.SONAME: "lib", "tvd.h": "include", "tvd.py": "share/tvdlg/python"}
+        places |= {name: "lib/tvdlg/pascal" for name in ("tvd.pas", "libtvd.o")}
+        for name, place in places.items():
+            files.put(f"{place}/{name}", (pathlib.Path(room) / name).read_bytes())
+    # what `-ltvd` finds
+    files.put("lib/libtvd.so", f"INPUT({linked.SONAME})\n")
+
+
 def packed(program, gate=None):
-    """All files of a built program."""
+    """All files of a built program, and of the library."""
     files, version, build = Packed(), version_of(program), build_text(gate)
     files.put("bin/tvdlg", stripped(program, build), runs=True)
     for name in SCRIPTS:
@@ -156,6 +174,7 @@ def packed(program, gate=None):
         files.put(f"share/doc/tvdlg/{pathlib.Path(name).name}", (top / name).read_bytes())
     for path in sorted((top / "examples").iterdir()):
         files.put(f"share/doc/tvdlg/examples/{path.name}", path.read_bytes())
+    put_library(files)
     files.put("share/doc/tvdlg/BUILD", build)
     files.put("share/doc/tvdlg/copyright", NO_LICENCE)
     return files
