@@ -2,6 +2,8 @@
 pub mod Device
 -- What a pen puts
 pub mod Pen
+-- A text shown in a room
+pub mod Rooms
 -- What a writer takes, cuts and fails at
 pub mod Writer
 -- What a reader gives

@@ -8,6 +8,7 @@ mod pen;
 mod read_fault;
 mod reader;
 mod reading;
+mod room;
 mod utf8;
 mod writer;
 
@@ -18,5 +19,6 @@ pub use pen::Pen;
 pub use read_fault::ReadFault;
 pub use reader::Reader;
 pub use reading::read_text;
+pub use room::show;
 pub use utf8::push_char;
 pub use writer::{WriteFailed, Writer, write_all};
