@@ -96,5 +96,8 @@ abbrev pub has_no_bars : Desc → Bool
 has_no_bars d = (length d.menus == 0) && (length d.status == 0)
 
 -- it was quit, or no dialog is open and nothing can open one
+abbrev pub nothing_can_happen : Desc → List LogLine → (is_open : Bool) → Bool
+nothing_can_happen d log is_open = list_any is_quit log || (not is_open && has_no_bars d)
+
 abbrev pub is_finished : Session → Bool
-is_finished s = list_any is_quit s.state.log || (not (is_some s.state.dialog) && has_no_bars s.desc)
+is_finished s = nothing_can_happen s.desc s.state.log (is_some s.state.dialog)

@@ -10,7 +10,7 @@ use tv_event::Event;
 use tv_model::Desc;
 
 /// Brings an event to the screen: what a script can say of what the mouse does beside it.
-pub(crate) fn brought(desc: &Desc, event: &Event) -> Event
+pub fn brought(desc: &Desc, event: &Event) -> Event
     ensures { result ≡ brought desc.now event.now }
 {
     match event {

@@ -1,14 +1,14 @@
 //! What comes of an action in a terminal, and what ends a run there.
 
-ghost use Rattle.std.specs.Prelude.{◌≡◌, ◌&&◌, not, is_some};
+ghost use Rattle.std.specs.Prelude.{◌≡◌, is_some};
 ghost use Rattle.std.specs.List.{list_any};
 ghost use Rattle.tv_machine.specs.Run.{Session};
 ghost use Rattle.tv_model.specs.Faults.Letters.{is_same_key};
-ghost use Rattle.tv_play.specs.Ends.{IsTakenFor, has_interrupt, has_no_bars, has_refresh, interrupt, is_finished, is_leaving, is_quit, is_refreshing, refresh};
+ghost use Rattle.tv_play.specs.Ends.{IsTakenFor, has_interrupt, has_no_bars, has_refresh, interrupt, is_finished, is_leaving, is_quit, is_refreshing, nothing_can_happen, refresh};
 
 use crate::live::Live;
 use tv_event::{Event, Key};
-use tv_model::{Desc, LogLine, StatusItem};
+use tv_model::{Desc, Id, LogLine, StatusItem};
 use tv_terminal::Action;
 
 // Whether the line says that the run is over.
@@ -31,18 +31,19 @@ fn has_no_bars(desc: &Desc) -> bool
     desc.menus.as_slice().is_empty() && desc.status.as_slice().is_empty()
 }
 
-// Whether no dialog is open, and nothing can open one.
-fn is_idle<L: Live>(stage: &L) -> bool
-    ensures { (s : Session) → L.stands stage.now s → result ≡ (not (is_some s.state.dialog) && has_no_bars s.desc) }
+/// Whether nothing can happen any more after an event that logged these lines, where this control has the focus: the run is over,
+/// or no dialog is open and nothing can open one.
+pub fn nothing_can_happen(desc: &Desc, log: &[LogLine], focus: Option<Id>) -> bool
+    ensures { result ≡ nothing_can_happen desc.now log.now (is_some focus) }
 {
-    stage.focus().is_none() && has_no_bars(stage.desc())
+    has_quit(log) || (focus.is_none() && has_no_bars(desc))
 }
 
 /// Whether nothing can happen any more, with the log of the last event not yet taken.
 pub(crate) fn is_finished<L: Live>(stage: &L) -> bool
     ensures { (s : Session) → L.stands stage.now s → result ≡ is_finished s }
 {
-    has_quit(stage.log()) || is_idle(stage)
+    nothing_can_happen(stage.desc(), stage.log(), stage.focus())
 }
 
 fn is_interrupt(key: Key) -> bool
@@ -104,7 +105,7 @@ fn is_refreshing(desc: &Desc, action: Action) -> bool
 }
 
 /// What an action is taken for.
-pub(crate) enum Step {
+pub enum Step {
     /// The user leaves.
     Leave,
     /// The whole screen is painted anew.
@@ -113,8 +114,8 @@ pub(crate) enum Step {
     Perform(Event),
 }
 
-/// Tells what an action is taken for.
-pub(crate) fn step_of(desc: &Desc, action: Action) -> Step
+/// Says what an action is taken for.
+pub fn step_of(desc: &Desc, action: Action) -> Step
     ensures { IsTakenFor desc.now action result }
 {
     if is_leaving(desc, action) {

@@ -16,7 +16,8 @@ mod refusal;
 mod session;
 mod show;
 
-pub use edge::heard_can_be_said;
+pub use edge::{brought, heard_can_be_said};
+pub use ends::{Step, nothing_can_happen, step_of};
 pub use live::Live;
 pub use outputs::{NoTape, Outputs};
 pub use parting::{Parting, PlayFault};

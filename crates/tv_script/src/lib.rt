@@ -14,7 +14,7 @@ mod stream_fault;
 mod streaming;
 mod tape;
 
-pub use lines::{end_word, put_escaped_char, put_name};
+pub use lines::{end_word, put_escaped_char, put_field, put_log, put_name};
 pub use performing::{perform, put_waiting_log};
 pub use script::Script;
 pub use script_text::{ScriptFault, parse_items};

@@ -15,7 +15,7 @@ use tv_model::{Desc, Id, LogLine, Value};
 use tv_valid::Chars;
 
 /// Writes lines of the log.
-pub(crate) fn put_log<W: Writer>(pen: &mut Pen<W>, desc: &Desc, lines: &[LogLine])
+pub fn put_log<W: Writer>(pen: &mut Pen<W>, desc: &Desc, lines: &[LogLine])
     ensures { Puts W.seen pen.old pen.new (log_text desc.now lines.now) }
 {
     for line in lines {
@@ -100,7 +100,8 @@ pub fn end_word(command: Command) -> &'static [u8]
     }
 }
 
-fn put_field<W: Writer>(pen: &mut Pen<W>, desc: &Desc, id: Id, value: &Value)
+/// Writes the line of a field with its value.
+pub fn put_field<W: Writer>(pen: &mut Pen<W>, desc: &Desc, id: Id, value: &Value)
     ensures { Puts W.seen pen.old pen.new (log_line desc.now (lines.Field id value.now)) }
 {
     pen.put(b"field ");
