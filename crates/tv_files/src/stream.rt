@@ -7,7 +7,7 @@ ghost use Rattle.tv_files.specs.Streams.{Flushes};
 
 use std::alloc::{AllocError, Global};
 use std::io::Write;
-use tv_io::{Device, WriteFailed, Writer};
+use tv_io::{Device, Gathering, WriteFailed, Writer};
 
 /// A writer that may keep back what it took.
 pub trait Stream: Writer {
@@ -125,5 +125,11 @@ impl<W: Write + Drop> Stream for DirectStream<W> {
         }
         self.failures = self.failures.saturating_add(1);
         Err(WriteFailed)
+    }
+}
+
+impl Stream for Gathering {
+    fn flush(&mut self) -> Result<(), WriteFailed> {
+        Gathering::flush(self)
     }
 }

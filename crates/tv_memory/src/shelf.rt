@@ -3,10 +3,9 @@
 ghost use Rattle.std.specs.Prelude.{◌≡◌, None};
 ghost use Rattle.tv_memory.specs.Shelves.{text_at};
 
-use crate::memory_stream::MemoryStream;
 use std::alloc::Global;
 use tv_files::{AlbumFault, FileStore, ReadFault};
-use tv_io::FileReader;
+use tv_io::{FileReader, Gathering};
 
 /// A text, and the path under which it is found.
 #[derive(Clone, Copy)]
@@ -36,7 +35,7 @@ impl<'a> Shelf<'a> {
 impl<'a> FileStore for Shelf<'a> {
     type File = FileReader<&'a [u8]>;
 
-    type Made = MemoryStream;
+    type Made = Gathering;
 
     ghost known = { λ shelf. record {
       contents = text_at shelf.first.name.now shelf.first.text.now shelf.second.name.now shelf.second.text.now;
@@ -56,7 +55,7 @@ impl<'a> FileStore for Shelf<'a> {
         }
     }
 
-    fn make(&mut self, _alloc: Global, _path: &str) -> Result<MemoryStream, AlbumFault> {
+    fn make(&mut self, _alloc: Global, _path: &str) -> Result<Gathering, AlbumFault> {
         Err(AlbumFault::Write)
     }
 }

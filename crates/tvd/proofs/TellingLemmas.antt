@@ -9,7 +9,8 @@ use Rattle.tv_files.specs.declared.no_task.NoTask.TheVariants.{NoMemory, Usage}
 use Rattle.tv_files.specs.declared.task.Task.{Task}
 use Rattle.tv_main.specs.Asking.{IsAskedBy}
 use Rattle.tv_memory.specs.Closed.{album_of, input_of}
-use Rattle.tv_memory.specs.Gathered.{IsShown, Shows, gathered}
+use Rattle.tv_io.specs.Rooms.{Shows}
+use Rattle.tv_memory.specs.Gathered.{IsShown, gathered}
 use Rattle.tv_memory.specs.Words.{IsBareUsage}
 use Rattle.tvd.specs.Telling.{Tells, answer_of, begun, files_of}
 

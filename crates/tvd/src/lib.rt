@@ -5,8 +5,9 @@ ghost use Rattle.tvd.specs.Telling.{Tells, files_of};
 
 use std::alloc::Global;
 use tv_files::World;
+use tv_io::{Gathering, show};
 use tv_main::run_main;
-use tv_memory::{ClosedAlbum, ClosedInput, MemoryStream, NamedText, Shelf, show, words_in};
+use tv_memory::{ClosedAlbum, ClosedInput, NamedText, Shelf, words_in};
 
 /// The status where a file, a stream or memory failed.
 const FAILED: u8 = 3;
@@ -39,12 +40,12 @@ pub extern "C" fn tvd_tell(
         files: Shelf::new(file, beside),
         album: ClosedAlbum::new(),
         pieces: ClosedInput::new(),
-        out: MemoryStream::new(alloc),
-        err: MemoryStream::new(alloc),
+        out: Gathering::new(alloc),
+        err: Gathering::new(alloc),
     };
     let status = run_main(alloc, words_in(alloc, words), &mut world);
-    *out_used = show(world.out.text(), out);
-    *err_used = show(world.err.text(), err);
+    *out_used = show(world.out.bytes(), out);
+    *err_used = show(world.err.bytes(), err);
     if world.err.has_failed() {
         FAILED
     } else {

@@ -12,8 +12,8 @@ returns-then-has_failed c =
     c.new-4.ensures.none c.new-4.ensures.count c.new-5.ensures.none c.new-5.ensures.count)
     c.run_main-status.ensures
     (lost (world.err.failures == 0) c.run_main-status.result (sym c.has_failed.ensures ∙ c.if-has_failed.true))
-    (shown world.out.text.items world.out.failures c.text.ensures c.show.ensures)
-    (shown world.err.text.items world.err.failures c.text-2.ensures c.show-2.ensures)
+    (shown world.out.bytes.items world.out.failures c.bytes.ensures c.show.ensures)
+    (shown world.err.bytes.items world.err.failures c.bytes-2.ensures c.show-2.ensures)
 
 pub returns : goal.returns
 returns c =
@@ -25,5 +25,5 @@ returns c =
     c.new-4.ensures.none c.new-4.ensures.count c.new-5.ensures.none c.new-5.ensures.count)
     c.run_main-status.ensures
     (kept (world.err.failures == 0) c.run_main-status.result (sym c.has_failed.ensures ∙ c.if-has_failed.false))
-    (shown world.out.text.items world.out.failures c.text.ensures c.show.ensures)
-    (shown world.err.text.items world.err.failures c.text-2.ensures c.show-2.ensures)
+    (shown world.out.bytes.items world.out.failures c.bytes.ensures c.show.ensures)
+    (shown world.err.bytes.items world.err.failures c.bytes-2.ensures c.show-2.ensures)
