@@ -1,6 +1,8 @@
 //! The program as a library for C: what it does over files, done over memory.
 #![tactic(auto)]
 
+mod doors;
+
 ghost use Rattle.tvd.specs.Telling.{Tells, files_of};
 
 use std::alloc::Global;
