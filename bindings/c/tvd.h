@@ -1,4 +1,5 @@
-/* tvd.h: what the program tvdlg does with files, done with texts in memory. C11 or C++; link libtvd.a, libtvd.o or -ltvd. */
+/* tvd.h: what the program tvdlg does with files, done with texts in memory; and descriptions at work. C11 or C++; link
+ * libtvd.a, libtvd.o or -ltvd. */
 #ifndef TVD_H
 #define TVD_H
 #include <stddef.h>
@@ -9,7 +10,7 @@
 extern "C" {
 #endif
 
-/* The only export. It does what `tvdlg WORDS` does where the files `name` and `name2` hold `text` and `text2` and no other
+/* Does what `tvdlg WORDS` does where the files `name` and `name2` hold `text` and `text2` and no other
  * file can be read or made, and returns tvdlg's status: 0 done; 1 faults, a refusal or a bad text; 2 usage; 3 a file or
  * memory failed; 4 nothing more came from the user, at once, for `play`.
  *
@@ -119,6 +120,116 @@ static inline tvd_told tvd_run(const void *text, size_t size, const void *script
 /* `tvdlg picture` after a script. */
 static inline tvd_told tvd_picture(const void *text, size_t size, const void *script, size_t script_size) {
   return tvd_both("picture", text, size, script, script_size);
+}
+
+/* ---- a description at work
+ *
+ * A form is a room of tvd_size() bytes, aligned as malloc aligns. tvd_open begins a run of a description there, tvd_do
+ * does or shows one thing, and tvd_close ends the run: then the room is the caller's again. Between them only the library
+ * reads and writes it. What they keep is proved too (`HeldAfter` of crates/tvd/specs/Doors.antt). Beside what tvd_tell
+ * asks of its caller:
+ * - A form is opened once before it is closed, and closed once. Nothing else is done with one that isn't open.
+ * - One thread at a time uses a form. */
+typedef struct tvd_form tvd_form;
+
+size_t tvd_size(void);
+void tvd_open(tvd_form *at, const void *text, size_t size);
+uint8_t tvd_do(tvd_form *at, uint32_t asked, const void *input, size_t input_size, void *room, size_t room_size,
+               size_t *used);
+void tvd_close(tvd_form *at);
+
+/* What is asked of a form. Of a text `*used` says how many bytes it has, and it becomes the front of the room if it fits. */
+enum {
+  TVD_STATUS,  /* whether a sound description was opened */
+  TVD_BYTES,   /* take bytes of a terminal, up to the first with which something is done; `*used` says how many were taken */
+  TVD_PAUSE,   /* take notice that for a tenth of a second no byte came: ESC alone was the key */
+  TVD_LINE,    /* perform the one event of a script's line */
+  TVD_COMMAND, /* give the command of the number that is the one byte of the input */
+  TVD_LOG,     /* the log of the last event, or of the start */
+  TVD_SCREEN,  /* the cells of the screen, row by row: tvd_cell */
+  TVD_SHAPE,   /* two bytes: columns and rows */
+  TVD_FOCUS,   /* the name of the control that has the focus, empty where none has */
+  TVD_RECORD   /* the fields with which the dialog of the name opens next, as they are logged at an end */
+};
+
+/* What a form answers. */
+enum {
+  TVD_FORM_DONE,      /* it is done, and no event came of it */
+  TVD_FORM_EVENT,     /* an event was performed: the log and the screen may be others */
+  TVD_FORM_REFUSED,   /* nothing can be made of what was asked */
+  TVD_FORM_NO_MEMORY, /* there was no memory for it, and nothing has changed */
+  TVD_FORM_NO_ROOM,   /* the room is too small for the text, and is as it was */
+  TVD_FORM_LEFT,      /* the user leaves, by Ctrl-\ or Ctrl-C */
+  TVD_FORM_OVER,      /* as an event, but nothing can happen any more, except by a command of the program's own */
+  TVD_FORM_UNSOUND,   /* no sound description was opened */
+  TVD_FORM_REFRESH    /* the whole screen is to be shown anew, as by Ctrl-L */
+};
+
+/* A cell: the number of its character, the least byte first, and its colours: 4 bits of the character's, 3 behind it. */
+typedef struct {
+  uint8_t character[3], colours;
+} tvd_cell;
+
+/* Below are functions over these, which are not proved. */
+
+/* Opens a description. Null where that can't be; `*answer` says why. */
+static inline tvd_form *tvd_new(const void *text, size_t size, uint8_t *answer) {
+  tvd_form *form = (tvd_form *)malloc(tvd_size());
+  char none = 0;
+  size_t used;
+  *answer = TVD_FORM_NO_MEMORY;
+  if (!form) return NULL;
+  tvd_open(form, text, size);
+  *answer = tvd_do(form, TVD_STATUS, "", 0, &none, 0, &used);
+  if (*answer == TVD_FORM_DONE) return form;
+  tvd_close(form);
+  free(form);
+  return NULL;
+}
+
+static inline void tvd_end(tvd_form *form) {
+  tvd_close(form);
+  free(form);
+}
+
+/* Something is done that shows no text. */
+static inline uint8_t tvd_act(tvd_form *form, uint32_t asked, const void *input, size_t size, size_t *used) {
+  char none = 0;
+  return tvd_do(form, asked, input, size, &none, 0, used);
+}
+
+static inline uint8_t tvd_line(tvd_form *form, const char *line) {
+  size_t used;
+  return tvd_act(form, TVD_LINE, line, strlen(line), &used);
+}
+
+static inline uint8_t tvd_command(tvd_form *form, uint8_t number) {
+  size_t used;
+  return tvd_act(form, TVD_COMMAND, &number, 1, &used);
+}
+
+static inline uint8_t tvd_bytes(tvd_form *form, const void *bytes, size_t size, size_t *taken) {
+  return tvd_act(form, TVD_BYTES, bytes, size, taken);
+}
+
+static inline uint8_t tvd_pause(tvd_form *form) {
+  size_t used;
+  return tvd_act(form, TVD_PAUSE, "", 0, &used);
+}
+
+/* A text that is asked for, with a NUL byte behind it, for the caller to free. Null where there is none; `*answer` says why. */
+static inline char *tvd_text(tvd_form *form, uint32_t asked, const char *name, size_t *size, uint8_t *answer) {
+  size_t room = 255;
+  for (char *text = NULL;; room = *size) {
+    free(text);
+    *answer = TVD_FORM_NO_MEMORY;
+    if (!(text = (char *)malloc(room + 1))) return NULL;
+    *answer = tvd_do(form, asked, name, strlen(name), text, room, size);
+    if (*answer == TVD_FORM_NO_ROOM) continue;
+    if (*answer == TVD_FORM_DONE) return text[*size] = 0, text;
+    free(text);
+    return NULL;
+  }
 }
 
 #ifdef __cplusplus
