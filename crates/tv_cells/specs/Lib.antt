@@ -7,3 +7,4 @@ pub mod Layers
 pub mod Damage
 pub mod Repainting
 pub mod HotText
+pub mod Sheets

@@ -85,6 +85,21 @@ impl Screen {
         })
     }
 
+    /// Returns a copy.
+    ///
+    /// # Errors
+    ///
+    /// `AllocError` where there is no memory for its cells.
+    pub fn copy(&self, alloc: Global) -> Result<Screen, AllocError>
+        ensures { IfOk result (λ copy. copy ≡ self.now) }
+    {
+        Ok(Screen {
+            width: self.width,
+            height: self.height,
+            cells: self.cells.iter().copied().collect(alloc)?,
+        })
+    }
+
     /// Returns the number of columns.
     pub fn width(&self) -> u32
         ensures is { result ≡ self.now.width }
