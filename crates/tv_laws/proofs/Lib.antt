@@ -15,6 +15,7 @@ pub mod WorkLemmas
 pub mod DragLemmas
 pub mod CommandLemmas
 pub mod RunLemmas
+pub mod SheetLemmas
 pub mod DeclaredLemmas
 pub mod LeavingLemmas
 pub mod TabLemmas

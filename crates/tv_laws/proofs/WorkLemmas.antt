@@ -2,6 +2,7 @@
 use Rattle.std.proofs.Common.{◌≡◌, ◌⊎◌, inl, inr, Bool, false, ◌==◌, ◌<◌, ℕ, zero, suc, if◌then◌else◌, List, [], ◌∷◌, map, filter, length, Option, Some, None, unwrap_or, refl, sym, ap, subst, ◌∙◌, All, arith}
 use Rattle.std.specs.Prelude.{slice_get, slice_set}
 use Rattle.std.proofs.lemmas.List.Elements.{All-append, All-head, All-nil, All-push, All-tail, All-weaker}
+use Rattle.tv_cells.specs.Picture.{Picture}
 use Rattle.tv_cells.specs.declared.rect.Point.{Point}
 use Rattle.tv_model.specs.declared.node.Id.{Id}
 use Rattle.tv_model.specs.declared.desc.Desc.{Desc}
@@ -141,11 +142,11 @@ module _ (d : Desc) (sound : HasSoundDialogs d) where
           at j ids (inr old) = k.ordered j ids old
 
       -- the dialog stands
-      stands : (origin : Point) → s.menu ≡ None → s.is_over ≡ false → s.frame ≡ None
+      stands : (origin : Point) (sheet : Option Picture) → s.menu ≡ None → s.is_over ≡ false → s.frame ≡ None
           → (HasTopCell d (corner_of dialog.node) dialog.node.w → HasTopCell d origin dialog.node.w)
-          → IsFitState d (record (worked s place m) { dialog = Some (record { place = place; origin = origin; leaves = m.leaves; focus = m.focus; held = m.held }) })
-      stands origin menu over free top =
-          let o : OpenDialog = record { place = place; origin = origin; leaves = m.leaves; focus = m.focus; held = m.held } in
+          → IsFitState d (record (worked s place m) { dialog = Some (record { place = place; origin = origin; sheet = sheet; leaves = m.leaves; focus = m.focus; held = m.held }) })
+      stands origin sheet menu over free top =
+          let o : OpenDialog = record { place = place; origin = origin; sheet = sheet; leaves = m.leaves; focus = m.focus; held = m.held } in
           let after : State = record (worked s place m) { dialog = Some o } in
           let less : place < length s.overwriting = subst (λ (n : ℕ). place < n) (sym k.places) (get_less d.dialogs place dialog there) in
           let same : overwriting_at after place ≡ m.overwriting = ap (λ x. unwrap_or x []) (get_set_same s.overwriting place m.overwriting less) in
@@ -199,7 +200,7 @@ module _ (d : Desc) (sound : HasSoundDialogs d) where
       let m = work x.dialog (modal_of s o) in
       let done = keeps x.dialog (sound-at o.place x.dialog x.there) (record { fit = x.fit; log = All-nil (NamesEndOf x.dialog); going = refl }) in
       subst (λ found. IsFitState d (works s o work found)) (sym x.there)
-      (option_cases m.ended (λ over. IsFitState d (after_work s o m over)) (λ none. stands s f.kept o.place x.dialog x.there m done o.origin x.menu x.over free x.top)
+      (option_cases m.ended (λ over. IsFitState d (after_work s o m over)) (λ none. stands s f.kept o.place x.dialog x.there m done o.origin o.sheet x.menu x.over free x.top)
       (λ number ended. ends s f.kept o.place x.dialog x.there m done number ended free))
 
   -- a dialog opens
@@ -210,5 +211,5 @@ module _ (d : Desc) (sound : HasSoundDialogs d) where
       (λ dialog there.
       let m = opened_dialog dialog (saved_at s place) (overwriting_at s place) in
       let is = opens-fit dialog (sound-at place dialog there) (saved_at s place) (overwriting_at s place) (saved_safe s f.kept place dialog there) (ordered_at s f.kept place dialog there) in
-      stands (with_line_logged (lines.Open dialog.node.id) s) (kept-logged (lines.Open dialog.node.id) s tt f.kept) place dialog there m (open-done dialog m is.0) (corner_of dialog.node) menu over free
+      stands (with_line_logged (lines.Open dialog.node.id) s) (kept-logged (lines.Open dialog.node.id) s tt f.kept) place dialog there m (open-done dialog m is.0) (corner_of dialog.node) None menu over free
       (λ top. top))

@@ -18,3 +18,5 @@ pub mod Letters
 pub mod Records
 -- how every run can leave the open dialog
 pub mod Escape
+-- sheets that a program lays
+pub mod Sheets

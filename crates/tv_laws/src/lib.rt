@@ -10,4 +10,4 @@ mod runs;
 pub use letters::shortcuts_act;
 pub use order::tab_goes_round;
 pub use records::{dialog_shows_record, dialogs_can_be_left, records_are_kept};
-pub use runs::{dialog_stays_fit, runs_are_safe, runs_stay_fit};
+pub use runs::{dialog_stays_fit, runs_are_safe, runs_stay_fit, sheets_are_laid};

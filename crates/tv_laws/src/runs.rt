@@ -3,6 +3,7 @@ ghost use Rattle.tv_machine.specs.Safe.{IsAlwaysSafe, StandOnDesktop};
 ghost use Rattle.tv_laws.specs.Letters.{LettersAlwaysHaveOneMarker};
 ghost use Rattle.tv_laws.specs.Leaving.{EscCancels, TabGoesOn, UpLetsGo};
 ghost use Rattle.tv_laws.specs.Runs.{FitIsSafe, HasSoundDialogs, ReachesFit, RecordsFit, RunsFit, StartsFit};
+ghost use Rattle.tv_laws.specs.Sheets.{RunsBare, SheetsFit, StartsBare};
 ghost use Rattle.tv_laws.specs.Sound.{IsSoundDialog};
 ghost use Rattle.tv_laws.specs.Steps.{OpensFit, StaysFit};
 
@@ -17,6 +18,14 @@ pub fn runs_stay_fit(_desc: &Desc)
     ensures records { RecordsFit _desc.now }
     ensures reaches { ReachesFit _desc.now }
     ensures once { LettersAlwaysHaveOneMarker _desc.now }
+{}
+
+/// A theorem, as a function without a body: no run has sheets but those that its program lays, and a fit state stays fit where one
+/// is laid, or taken away.
+pub fn sheets_are_laid(_desc: &Desc)
+    ensures starts { StartsBare _desc.now }
+    ensures runs { RunsBare _desc.now }
+    ensures fit { SheetsFit _desc.now }
 {}
 
 /// A theorem, as a function without a body: every fit state is safe, and so each that events lead to, where the dialogs

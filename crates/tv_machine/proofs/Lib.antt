@@ -10,3 +10,5 @@ pub mod RuleExamples
 pub mod SharedExamples
 pub mod SharedLemmas
 pub mod StepLemmas
+pub mod LeftLemmas
+pub mod LeftExamples

@@ -14,3 +14,7 @@ pub mod Dragging
 pub mod Step
 -- the state before the first event
 pub mod Start
+-- events that a run leaves to its program
+pub mod Left
+-- a sheet that the program lays in an interior
+pub mod Laid

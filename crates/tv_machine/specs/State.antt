@@ -1,5 +1,6 @@
 -- The state of a run.
 use Rattle.std.specs.Prelude.{ℕ, ℤ, Bool, List, Option}
+use Rattle.tv_cells.specs.Picture.{Picture}
 use Rattle.tv_cells.specs.declared.rect.Point.{Point}
 use Rattle.tv_model.specs.declared.node.Id.{Id}
 use Rattle.tv_model.specs.declared.record.Value.{Value}
@@ -18,10 +19,11 @@ pub record Held : Type 0 where
   pub id : Id
   pub item : ℕ
 
--- a window that is open, and where its corner stands on the screen
+-- a window that is open, where its corner stands on the screen, and what the program has laid in its interior
 pub record OpenWindow : Type 0 where
   pub id : Id
   pub origin : Point
+  pub sheet : Option Picture
 
 -- the dialog that is open, by its place in the description, where its corner stands on the screen, and its
 -- leaves in
@@ -29,6 +31,7 @@ pub record OpenWindow : Type 0 where
 pub record OpenDialog : Type 0 where
   pub place : ℕ
   pub origin : Point
+  pub sheet : Option Picture
   pub leaves : List LeafState
   pub focus : Id
   pub held : Option Held

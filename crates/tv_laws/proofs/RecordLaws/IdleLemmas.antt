@@ -68,7 +68,7 @@ module _ (d : Desc) (sound : HasSoundDialogs d) (s : State) (kept : IsKept d s) 
       let before = unfocused dialog (saved_at t place) (overwriting_at t place) in
       let m : Modal = opened_dialog dialog (saved_at t place) (overwriting_at t place) in
       let quiet = quiet-focus dialog (first_focus dialog (opened_leaves dialog (saved_at t place))) before (All-nil IsNoEnd, refl) in
-      let o : OpenDialog = record { place = place; origin = corner_of dialog.node; leaves = m.leaves; focus = m.focus; held = m.held } in
+      let o : OpenDialog = record { place = place; origin = corner_of dialog.node; sheet = None; leaves = m.leaves; focus = m.focus; held = m.held } in
       record {
         log = All-append IsNoEnd (t.log ++ lines.Open dialog.node.id ∷ []) m.log (All-push IsNoEnd t.log (lines.Open dialog.node.id) i.0 tt) quiet.0;
         saved = i.1;

@@ -2,6 +2,8 @@
 use Rattle.std.specs.Prelude.{[], ℕ, Bool, true, List, ◌∷◌, find, Option, ℤ, pos, ◌==◌, if◌then◌else◌}
 use Rattle.tv_cells.specs.Layers.{Layer, Painted, Shadow}
 use Rattle.tv_cells.specs.Rectangle.{sized}
+use Rattle.tv_cells.specs.Picture.{Picture}
+use Rattle.tv_cells.specs.Sheets.{inlaid}
 use Rattle.tv_cells.specs.declared.rect.Rect.{Rect}
 use Rattle.tv_cells.specs.declared.canvas.Canvas.{Canvas}
 use Rattle.tv_cells.specs.declared.rect.Point.{Point}
@@ -39,9 +41,9 @@ is_default_now views focus node =
     if is_button_node (node_of views focus) then node.id.0 == focus.0 else is_default node
 
 -- a dialog's body, the frame with the interior, and its shadow
-abbrev pub body_layers : Desc → Point → Dialog → List Layer
-body_layers d origin dialog =
-    Painted place w h (frame_face w h head.title (frame_look attribute_of owners.Dialog 0 true))
+abbrev pub body_layers : Desc → Point → Option Picture → Dialog → List Layer
+body_layers d origin sheet dialog =
+    Painted place w h (inlaid sheet w h (frame_face w h head.title (frame_look attribute_of owners.Dialog 0 true)))
     ∷ Shadow place (sized w h) ∷ []
   where
     head : DialogHead
@@ -59,11 +61,11 @@ body_layers d origin dialog =
 -- ---- windows
 
 -- a window's body, the frame with the interior, and its shadow
-abbrev pub window_body_layers : Desc → Bool → Point → Window → List Layer
-window_body_layers d is_active origin window =
+abbrev pub window_body_layers : Desc → Bool → Point → Option Picture → Window → List Layer
+window_body_layers d is_active origin sheet window =
     Painted place w h
-    (frame_face w h head.title
-    (frame_look attribute_of owners.Window (natural head.number) is_active))
+    (inlaid sheet w h (frame_face w h head.title
+    (frame_look attribute_of owners.Window (natural head.number) is_active)))
     ∷ Shadow place (sized w h) ∷ []
   where
     head : WindowHead

@@ -4,6 +4,7 @@ use Rattle.std.specs.Prelude.{Option, Some, None, is_none, option_map, slice_get
 use Rattle.std.specs.Prelude.{◌-ℤ◌}
 use Rattle.tv_cells.specs.Layers.{Layer, Painted, Shadow}
 use Rattle.tv_cells.specs.Rectangle.{sized}
+use Rattle.tv_cells.specs.Picture.{Picture}
 use Rattle.tv_cells.specs.declared.canvas.Canvas.{Canvas}
 use Rattle.tv_cells.specs.declared.rect.Point.{Point}
 use Rattle.tv_model.specs.declared.node.Id.{Id}
@@ -110,7 +111,7 @@ abbrev pub dialog_layers : Desc → OpenDialog → List Id → Dialog → List L
 dialog_layers d o overwriting dialog =
     flat_map (dialog_leaf d dialog o overwriting)
     (reverse (filter (is_visible dialog o.leaves) (leaf_list dialog.views)))
-    ++ body_layers d o.origin dialog
+    ++ body_layers d o.origin o.sheet dialog
 
 -- the open dialog, if there is one
 abbrev pub open_layers : Desc → List (List Id) → Option OpenDialog → List Layer
@@ -135,10 +136,10 @@ window_leaf d origin leaf =
     (content_by false None))
 
 -- its texts, the last on top, the body and its shadow
-abbrev pub window_layers : Desc → Bool → Point → Window → List Layer
-window_layers d is_active origin window =
+abbrev pub window_layers : Desc → Bool → Point → Option Picture → Window → List Layer
+window_layers d is_active origin sheet window =
     flat_map (window_leaf d origin) (reverse (leaf_list window.views))
-    ++ window_body_layers d is_active origin window
+    ++ window_body_layers d is_active origin sheet window
 
 -- windows from the front; no other than the first may be active
 abbrev pub stack_layers : Desc → Bool → List OpenWindow → List Layer
@@ -147,7 +148,7 @@ stack_layers d is_active (o ∷ behind) = shown (window_of d o.id) ++ stack_laye
   where
     shown : Option Window → List Layer
     shown None = []
-    shown (Some window) = window_layers d is_active o.origin window
+    shown (Some window) = window_layers d is_active o.origin o.sheet window
 
 -- ---- the screen
 

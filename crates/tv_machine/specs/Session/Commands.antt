@@ -83,6 +83,7 @@ opened_at s place dialog m = record (worked (with_line_logged (lines.Open dialog
       (record {
         place = place;
         origin = corner_of dialog.node;
+        sheet = None;
         leaves = m.leaves;
         focus = m.focus;
         held = m.held;

@@ -10,7 +10,7 @@ use Rattle.tv_machine.specs.Session.Commands.{open_dialog}
 
 -- a window stands where it is declared
 abbrev pub open_window : Window → OpenWindow
-open_window window = record { id = window.node.id; origin = corner_of window.node }
+open_window window = record { id = window.node.id; origin = corner_of window.node; sheet = None }
 
 -- no dialog is open, and the later windows stand in front
 abbrev pub closed : Desc → State
