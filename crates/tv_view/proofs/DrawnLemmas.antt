@@ -1,10 +1,11 @@
 -- What is drawn after something else, and where.
-use Rattle.std.proofs.Common.{◌≡◌, ◌∙◌, ℕ, ℤ, ap, ◌+ℤ◌, List, [], ◌∷◌, ◌++◌, arith, subst, sym, append_assoc}
+use Rattle.std.proofs.Common.{◌≡◌, ◌∙◌, ℕ, ℤ, ap, ◌+ℤ◌, List, [], ◌∷◌, ◌++◌, arith, subst, sym, append_assoc, Option, refl}
 use Rattle.std.proofs.lemmas.Int.{ints}
 use Rattle.tv_cells.specs.Canvas.{sub}
 use Rattle.tv_cells.specs.Layers.{Layer, Painted, Shows, Lays}
 use Rattle.tv_cells.specs.Picture.{Picture, IsAlike}
 use Rattle.tv_cells.specs.Rectangle.{IsNear, IsPointNear}
+use Rattle.tv_cells.specs.Sheets.{inlaid}
 use Rattle.tv_cells.specs.declared.rect.Rect.{Rect}
 use Rattle.tv_cells.specs.declared.canvas.Canvas.{Canvas}
 use Rattle.tv_model.specs.Screen.Faces.{FrameLook, frame_face}
@@ -25,8 +26,7 @@ near_sum a b small also = record { low = omega (arith, ints, small.low, also.low
 pub near_corner : (c : Canvas) (r : Rect) → IsSmall c.origin.x × IsSmall c.origin.y → IsSmallRect r → IsPointNear (sub c r).origin
 near_corner c r small rect = record { x = near_sum r.a.x c.origin.x rect.left small.0; y = near_sum r.a.y c.origin.y rect.top small.1 }
 
--- the same frame in the same place
-pub frame_is : (c d : Canvas) (w v h g : ℕ) (t u : List ℕ) (k l : FrameLook) → c ≡ d → w ≡ v → h ≡ g → t ≡ u → k ≡ l → Painted c w h (frame_face w h t k) ≡ Painted d v g (frame_face v g u l)
-frame_is c d w v h g t u k l place width height title look =
-    ap (λ x. Painted x w h (frame_face w h t k)) place ∙ (ap (λ x. Painted d x h (frame_face x h t k)) width
-    ∙ (ap (λ x. Painted d v x (frame_face v x t k)) height ∙ (ap (λ x. Painted d v g (frame_face v g x k)) title ∙ ap (λ x. Painted d v g (frame_face v g u x)) look)))
+-- the same frame with the same sheet in the same place
+pub frame_is : (c d : Canvas) (w v h g : ℕ) (t u : List ℕ) (k l : FrameLook) (s r : Option Picture) → c ≡ d → w ≡ v → h ≡ g → t ≡ u → k ≡ l → s ≡ r
+    → Painted c w h (inlaid s w h (frame_face w h t k)) ≡ Painted d v g (inlaid r v g (frame_face v g u l))
+frame_is c d w v h g t u k l s r place width height title look sheet = rw (place, width, height, title, look, sheet) refl

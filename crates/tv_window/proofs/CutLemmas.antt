@@ -25,7 +25,7 @@ module _ {V : Type 0} (look : V → Leaf) (env : Env) (r : Rect) (c : Canvas) wh
       let leaves = opened look window.body in
       let inner = sub c (window_bounds window) in
       let place = sub-within r c (window_bounds window) in
-      ap (λ layers. layers ++ window_frame_layer env (sub (within r c) (window_bounds window)) window.head ∷ [])
+      ap (λ layers. layers ++ window_frame_layer env (sub (within r c) (window_bounds window)) window.sheet window.head ∷ [])
       (ap (λ canvas. leaves_layers env canvas leaves) place ∙ leaves-within env r inner leaves)
-      ∙ ap (λ canvas. map (clipped r) (leaves_layers env inner leaves) ++ window_frame_layer env canvas window.head ∷ []) place
-      ∙ sym (map-append (clipped r) (leaves_layers env inner leaves) (window_frame_layer env inner window.head ∷ []))
+      ∙ ap (λ canvas. map (clipped r) (leaves_layers env inner leaves) ++ window_frame_layer env canvas window.sheet window.head ∷ []) place
+      ∙ sym (map-append (clipped r) (leaves_layers env inner leaves) (window_frame_layer env inner window.sheet window.head ∷ []))

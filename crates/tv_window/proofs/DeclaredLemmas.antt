@@ -1,5 +1,5 @@
 -- Open windows one for one: they stay so in another order, and are found alike.
-use Rattle.std.proofs.Common.{◌≡◌, IsTrue, ℕ, zero, suc, ℤ, pos, ◌+◌, ◌+ℤ◌, ◌-ℤ◌, Bool, cond, not, nat_lt, List, [], ◌∷◌, ◌++◌, length, take, drop, reverse, position, Some, None, refl, sym, ap, ◌∙◌, subst, arith}
+use Rattle.std.proofs.Common.{◌≡◌, IsTrue, ℕ, zero, suc, ℤ, pos, ◌+◌, ◌+ℤ◌, ◌-ℤ◌, Bool, cond, not, nat_lt, List, [], ◌∷◌, ◌++◌, length, take, drop, reverse, position, Option, Some, None, refl, sym, ap, ◌∙◌, subst, arith}
 use Rattle.std.specs.Int.Signed.{le_z, lt_z}
 use Rattle.std.specs.List.{position_or_len, remove, slice_get}
 use Rattle.std.specs.Ordering.{int_eq}
@@ -7,6 +7,7 @@ use Rattle.std.proofs.lemmas.Bool.{false≢true}
 use Rattle.std.proofs.lemmas.Grind.{reverse_onto}
 use Rattle.std.proofs.lemmas.Int.{ints}
 use Rattle.tv_cells.specs.Layers.{is_in}
+use Rattle.tv_cells.specs.Picture.{Picture}
 use Rattle.tv_cells.specs.declared.rect.Point.{Point}
 use Rattle.tv_group.specs.Stack.{raised_at}
 use Rattle.tv_view.specs.Meaning.{Leaf}
@@ -24,7 +25,7 @@ use Rattle.tv_machine.specs.State.{OpenWindow}
 use Rattle.tv_machine.proofs.ListLemmas.{found-passes, same-id}
 use Rattle.tv_window.specs.DeclaredWindows.{AreDeclared, IsDeclared}
 use Rattle.tv_window.specs.Head.{KeptWindowHead, declared_window_head, kept_window_head}
-use Rattle.tv_window.specs.Window.{head_of, moved_to, window_bounds}
+use Rattle.tv_window.specs.Window.{head_of, laid_to, moved_to, window_bounds}
 use Rattle.tv_window.specs.declared.window.WindowOf.{WindowOf}
 
 -- ---- what a window keeps of its node
@@ -78,6 +79,19 @@ module _ {V : Type 0} (look : V → Leaf) (d : Desc) where
       declared = is.declared;
       named = is.named;
       corner = refl;
+      sheet = is.sheet;
+      of = record { head = is.of.head; body = is.of.body };
+      limited = is.limited;
+      texts = is.texts;
+    }
+
+    -- with another sheet it is as well
+    unfoldable pub declared-laid : (sheet : Option Picture) → IsDeclared look d (record o { sheet = sheet }) (laid_to sheet w)
+    declared-laid sheet = record {
+      declared = is.declared;
+      named = is.named;
+      corner = is.corner;
+      sheet = refl;
       of = record { head = is.of.head; body = is.of.body };
       limited = is.limited;
       texts = is.texts;

@@ -180,8 +180,8 @@ module _ {V : Type 0} (look : V → Leaf) (d : Desc) where
 
   -- ---- one list of open windows
 
-  open-is : (i j : Id) (p q : Point) → i ≡ j → p ≡ q → ◌≡◌ {A = OpenWindow} record { id = i; origin = p } record { id = j; origin = q }
-  open-is i j p q e f = cc
+  open-is : (i j : Id) (p q : Point) (s t : Option Picture) → i ≡ j → p ≡ q → s ≡ t → ◌≡◌ {A = OpenWindow} record { id = i; origin = p; sheet = s } record { id = j; origin = q; sheet = t }
+  open-is i j p q s t e f g = cc
 
   -- windows are those of one list alone
   unique : (xs ys : List OpenWindow) (windows : List (WindowOf V)) → AreDeclared look d xs windows → AreDeclared look d ys windows → xs ≡ ys
@@ -193,7 +193,8 @@ module _ {V : Type 0} (look : V → Leaf) (d : Desc) where
   unique (o ∷ xs) (v ∷ ys) (w ∷ windows) are also =
       let id : o.id ≡ v.id = sym (id-same look d o w are.0) ∙ id-same look d v w also.0 in
       let corner : o.origin ≡ v.origin = sym are.0.corner ∙ also.0.corner in
-      ap (λ one. one ∷ xs) (open-is o.id v.id o.origin v.origin id corner) ∙ ap (λ others. v ∷ others) (unique xs ys windows are.1 also.1)
+      let sheet : o.sheet ≡ v.sheet = sym are.0.sheet ∙ also.0.sheet in
+      ap (λ one. one ∷ xs) (open-is o.id v.id o.origin v.origin o.sheet v.sheet id corner sheet) ∙ ap (λ others. v ∷ others) (unique xs ys windows are.1 also.1)
 
   -- none has moved
   pub still-alike : (stack moved : List OpenWindow) (desk after : DeskOf V) (damage : List Rect) → after ≡ desk → IsDesk look d stack desk → IsDesk look d moved after → AreStacksAlike d damage stack moved

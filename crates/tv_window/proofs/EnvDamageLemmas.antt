@@ -1,10 +1,11 @@
 -- What a window shows otherwise in another environment.
-use Rattle.std.proofs.Common.{◌≡◌, ℕ, pos, false, List, [], ◌∷◌, refl, sym, ap, subst, ◌∙◌}
+use Rattle.std.proofs.Common.{◌≡◌, ℕ, pos, false, List, [], ◌∷◌, refl, sym, ap, subst, ◌∙◌, Option}
 use Rattle.tv_cells.specs.Canvas.{sub}
 use Rattle.tv_cells.specs.Damage.{Grows, HasAll, HasWithin}
 use Rattle.tv_cells.specs.Glyph.{Glyph}
 use Rattle.tv_cells.specs.Layers.{cell_over, is_in, over}
 use Rattle.tv_cells.specs.Rectangle.{shifted}
+use Rattle.tv_cells.specs.Picture.{Picture}
 use Rattle.tv_cells.specs.declared.canvas.Canvas.{Canvas}
 use Rattle.tv_cells.specs.declared.rect.Rect.{Rect}
 use Rattle.tv_cells.proofs.RepaintingLemmas.{over-append}
@@ -23,9 +24,9 @@ use Rattle.tv_view.proofs.OffLemmas.{clip-off, damage-off}
 -- ---- a window
 
 module _ {V : Type 0} (look : V → Leaf) where
-  frame-clipped : (env : Env) (place : Canvas) (head : KeptWindowHead) (column row : ℕ) (under : Glyph) → is_in place.clip (pos column) (pos row) ≡ false
-      → over (window_frame_layer env place head) column row under ≡ under
-  frame-clipped env place head column row under out = rw out refl
+  frame-clipped : (env : Env) (place : Canvas) (sheet : Option Picture) (head : KeptWindowHead) (column row : ℕ) (under : Glyph) → is_in place.clip (pos column) (pos row) ≡ false
+      → over (window_frame_layer env place sheet head) column row under ≡ under
+  frame-clipped env place sheet head column row under out = rw out refl
 
   -- off its bounds it draws nothing
   drawn-off : (env : Env) (c : Canvas) (window : WindowOf V) (column row : ℕ) (under : Glyph) → is_in (shifted (window_bounds window) c.origin) (pos column) (pos row) ≡ false
@@ -34,9 +35,9 @@ module _ {V : Type 0} (look : V → Leaf) where
       let gone = clip-off (window_bounds window) c column row out in
       let leaves = opened look window.body in
       let inner = sub c (window_bounds window) in
-      over-append (leaves_layers env inner leaves) (window_frame_layer env inner (head_of window) ∷ []) column row under
-      ∙ leaves-clipped env column row inner leaves (over (window_frame_layer env inner (head_of window)) column row under) gone
-      ∙ frame-clipped env inner (head_of window) column row under gone
+      over-append (leaves_layers env inner leaves) (window_frame_layer env inner window.sheet (head_of window) ∷ []) column row under
+      ∙ leaves-clipped env column row inner leaves (over (window_frame_layer env inner window.sheet (head_of window)) column row under) gone
+      ∙ frame-clipped env inner window.sheet (head_of window) column row under gone
 
   module _ (old new : Env) (window : WindowOf V) (before after : List Rect) (bounds : Rect) (is : bounds ≡ window_bounds window) (grown : Grows bounds before after) where
     -- all of it has come in
@@ -53,7 +54,7 @@ module _ {V : Type 0} (look : V → Leaf) where
     abbrev leaves : List Placed
     leaves = opened look window.body
 
-    frame-same : new.is_active ≡ old.is_active → new.chain.now ≡ old.chain.now → (place : Canvas) → window_frame_layer new place (head_of window) ≡ window_frame_layer old place (head_of window)
+    frame-same : new.is_active ≡ old.is_active → new.chain.now ≡ old.chain.now → (place : Canvas) → window_frame_layer new place window.sheet (head_of window) ≡ window_frame_layer old place window.sheet (head_of window)
     frame-same active chain place = rw (active, chain) refl
 
     -- its frame looks the same
@@ -67,10 +68,10 @@ module _ {V : Type 0} (look : V → Leaf) where
         record {
           drawn = record {
             each = λ c column row off under.
-                over-append (leaves_layers old (sub c own) leaves) (window_frame_layer old (sub c own) (head_of window) ∷ []) column row under
-                ∙ views.each c column row off (over (window_frame_layer old (sub c own) (head_of window)) column row under)
+                over-append (leaves_layers old (sub c own) leaves) (window_frame_layer old (sub c own) window.sheet (head_of window) ∷ []) column row under
+                ∙ views.each c column row off (over (window_frame_layer old (sub c own) window.sheet (head_of window)) column row under)
                 ∙ ap (λ layer. cell_over (leaves_layers new (sub c own) leaves) column row (over layer column row under)) (sym (frame-same active chain (sub c own)))
-                ∙ sym (over-append (leaves_layers new (sub c own) leaves) (window_frame_layer new (sub c own) (head_of window) ∷ []) column row under);
+                ∙ sym (over-append (leaves_layers new (sub c own) leaves) (window_frame_layer new (sub c own) window.sheet (head_of window) ∷ []) column row under);
           };
           grown = subst (λ r. Grows r before after) is grown;
         }

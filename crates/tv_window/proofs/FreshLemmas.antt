@@ -56,6 +56,7 @@ module _ {V : Type 0} (look : V → Leaf) (d : Desc) where
       declared = window;
       named = All-head (λ one. window_of d one.node.id ≡ Some one) window declared found;
       corner = fresh.0.corner;
+      sheet = fresh.0.sheet;
       of = fresh.0.of;
       limited = subst (λ head. IfSome head IsLimitedWindowHead) (sym fresh.0.of.head) (All-head IsLawfulWindow window declared lawful).head;
       texts = (All-head IsLawfulWindow window declared lawful).texts;

@@ -11,4 +11,6 @@ pub mod OrderLemmas
 pub mod PlaceLemmas
 pub mod PointLemmas
 pub mod RaisedLemmas
+pub mod LaidLemmas
+pub mod TakesLemmas
 pub mod StackLemmas

@@ -1,5 +1,5 @@
 -- Off its bounds and its shadow a window shows nothing, wherever it stands.
-use Rattle.std.proofs.Common.{◌≡◌, ℕ, ℤ, pos, ◌+ℤ◌, ◌-ℤ◌, Bool, false, List, [], ◌∷◌, ◌++◌, All, flat_map, map, reverse, refl, sym, ap, subst, ◌∙◌, arith}
+use Rattle.std.proofs.Common.{◌≡◌, ℕ, ℤ, pos, ◌+ℤ◌, ◌-ℤ◌, Bool, false, Option, List, [], ◌∷◌, ◌++◌, All, flat_map, map, reverse, refl, sym, ap, subst, ◌∙◌, arith}
 use Rattle.std.proofs.lemmas.Grind.{reverse_onto}
 use Rattle.std.proofs.lemmas.Int.{ints}
 use Rattle.std.proofs.lemmas.List.Elements.{All-head, All-map, All-push, All-tail, All-weaker}
@@ -8,6 +8,8 @@ use Rattle.tv_cells.specs.Damage.{has, with_shadow}
 use Rattle.tv_cells.specs.Glyph.{Glyph}
 use Rattle.tv_cells.specs.Layers.{Layer, Painted, Shadow, cell_over, over}
 use Rattle.tv_cells.specs.Rectangle.{IsIn, shifted, sized}
+use Rattle.tv_cells.specs.Picture.{Picture}
+use Rattle.tv_cells.specs.Sheets.{inlaid}
 use Rattle.tv_cells.specs.declared.canvas.Canvas.{Canvas}
 use Rattle.tv_cells.specs.declared.rect.Point.{Point}
 use Rattle.tv_cells.specs.declared.rect.Rect.{Rect}
@@ -39,7 +41,7 @@ all-reverse P [] all = all
 all-reverse P (x ∷ xs) all =
     subst (All P) (sym (reverse_onto xs x [])) (All-push P (reverse xs) x (all-reverse P xs (All-tail P x xs all)) (All-head P x xs all))
 
-module _ (d : Desc) (window : Window) (origin : Point) (column row : ℕ) where
+module _ (d : Desc) (window : Window) (origin : Point) (column row : ℕ) (sheet : Option Picture) where
   abbrev w : ℤ
   w = window.node.w
 
@@ -107,7 +109,7 @@ module _ (d : Desc) (window : Window) (origin : Point) (column row : ℕ) where
   corner = canvas_at (desktop d) origin.x origin.y
 
   abbrev frame_in : Bool → FaceOf
-  frame_in is_active = frame_face (natural w) (natural h) (window_head window).title (frame_look attribute_of owners.Window (natural (window_head window).number) is_active)
+  frame_in is_active = inlaid sheet (natural w) (natural h) (frame_face (natural w) (natural h) (window_head window).title (frame_look attribute_of owners.Window (natural (window_head window).number) is_active))
 
   abbrev framed : Bool → Layer
   framed is_active = Painted corner (natural w) (natural h) (frame_in is_active)
@@ -115,7 +117,7 @@ module _ (d : Desc) (window : Window) (origin : Point) (column row : ℕ) where
   abbrev shade : Layer
   shade = Shadow corner (sized (natural w) (natural h))
 
-  shown : (is_active : Bool) → window_layers d is_active origin window ≡ views ++ framed is_active ∷ shade ∷ []
+  shown : (is_active : Bool) → window_layers d is_active origin sheet window ≡ views ++ framed is_active ∷ shade ∷ []
   shown is_active = refl
 
   in-own : (x y : ℤ) → IsIn (shifted (sized (natural w) (natural h)) corner.origin) x y → IsIn own_bounds x y
@@ -151,16 +153,19 @@ module _ (d : Desc) (window : Window) (origin : Point) (column row : ℕ) where
   -- ---- all of it
 
   module _ (texts : All (IsTextInside window.node) window.views) (tall : height_of window.node.kind ≡ h) where
-    -- off its bounds its activity doesn't show
+    -- off its bounds its frame doesn't show
+    pub frame-unseen : (is_active : Bool) → (IsIn own_bounds (pos column) (pos row) → ⊥) → (under : Glyph)
+        → cell_over (window_layers d is_active origin sheet window) column row under ≡ cell_over views column row (over shade column row under)
+    frame-unseen is_active out under =
+        over-append views (framed is_active ∷ shade ∷ []) column row under ∙ ap (cell_over views column row) (frame-off is_active out (over shade column row under))
+
+    -- nor its activity
     pub activity-off : (is_active other : Bool) → (IsIn own_bounds (pos column) (pos row) → ⊥) → (under : Glyph)
-        → cell_over (window_layers d is_active origin window) column row under ≡ cell_over (window_layers d other origin window) column row under
-    activity-off is_active other out under =
-        over-append views (framed is_active ∷ shade ∷ []) column row under
-        ∙ ap (cell_over views column row) (frame-off is_active out (over shade column row under) ∙ sym (frame-off other out (over shade column row under)))
-        ∙ sym (over-append views (framed other ∷ shade ∷ []) column row under)
+        → cell_over (window_layers d is_active origin sheet window) column row under ≡ cell_over (window_layers d other origin sheet window) column row under
+    activity-off is_active other out under = frame-unseen is_active out under ∙ sym (frame-unseen other out under)
 
     -- off its bounds and its shadow it leaves the cell as it is
-    pub window-off : (is_active : Bool) → has (with_shadow own_bounds) (pos column) (pos row) ≡ false → (under : Glyph) → cell_over (window_layers d is_active origin window) column row under ≡ under
+    pub window-off : (is_active : Bool) → has (with_shadow own_bounds) (pos column) (pos row) ≡ false → (under : Glyph) → cell_over (window_layers d is_active origin sheet window) column row under ≡ under
     window-off is_active off under =
         over-append views (framed is_active ∷ shade ∷ []) column row under
         ∙ views-off texts tall out (over (framed is_active) column row (over shade column row under))
@@ -169,3 +174,10 @@ module _ (d : Desc) (window : Window) (origin : Point) (column row : ℕ) where
       where
         out : IsIn own_bounds (pos column) (pos row) → ⊥
         out i = false-true off (has-left (own_bounds ∷ []) (shifted own_bounds aside ∷ []) (pos column) (pos row) (has-one own_bounds (pos column) (pos row) i))
+
+-- nor its sheet
+pub sheet-off : (d : Desc) (window : Window) (origin : Point) (column row : ℕ) (sheet other : Option Picture) → All (IsTextInside window.node) window.views
+    → height_of window.node.kind ≡ (window_head window).h → (is_active : Bool) → (IsIn (rect origin.x origin.y window.node.w (window_head window).h) (pos column) (pos row) → ⊥) → (under : Glyph)
+    → cell_over (window_layers d is_active origin sheet window) column row under ≡ cell_over (window_layers d is_active origin other window) column row under
+sheet-off d window origin column row sheet other texts tall is_active out under =
+    frame-unseen d window origin column row sheet texts tall is_active out under ∙ sym (frame-unseen d window origin column row other texts tall is_active out under)

@@ -36,8 +36,8 @@ module _ (d : Desc) where
       → stack_layers d is_active ((o ∷ behind) ++ more) ≡ stack_layers d is_active (o ∷ behind) ++ stack_layers d false more
   split-by is_active o behind more None is rest = rw is rest
   split-by is_active o behind more (Some window) is rest =
-      rw is (ap (λ layers. window_layers d is_active o.origin window ++ layers) rest
-      ∙ sym (append_assoc (window_layers d is_active o.origin window) (stack_layers d false behind) (stack_layers d false more)))
+      rw is (ap (λ layers. window_layers d is_active o.origin o.sheet window ++ layers) rest
+      ∙ sym (append_assoc (window_layers d is_active o.origin o.sheet window) (stack_layers d false behind) (stack_layers d false more)))
 
   -- some behind others
   split : (front behind : List OpenWindow) → stack_layers d false (front ++ behind) ≡ stack_layers d false front ++ stack_layers d false behind
@@ -45,7 +45,7 @@ module _ (d : Desc) where
   split (o ∷ front) behind = split-by false o front behind (window_of d o.id) refl (split front behind)
 
   -- the front one over the others
-  over-others : (is_active : Bool) (o : OpenWindow) (behind : List OpenWindow) (column row : ℕ) (under : Glyph)
+  pub over-others : (is_active : Bool) (o : OpenWindow) (behind : List OpenWindow) (column row : ℕ) (under : Glyph)
       → cell_over (stack_layers d is_active (o ∷ behind)) column row under ≡ cell_over (stack_layers d is_active (o ∷ [])) column row (cell_over (stack_layers d false behind) column row under)
   over-others is_active o behind column row under =
       ap (λ layers. cell_over layers column row under) (split-by is_active o [] behind (window_of d o.id) refl refl)
@@ -60,33 +60,33 @@ module _ {V : Type 0} (look : V → Leaf) (d : Desc) (column row : ℕ) where
   -- ---- one window
 
   module _ (o : OpenWindow) (w : WindowOf V) (is : IsDeclared look d o w) where
-    head : IsHead is.declared (head_of w)
+    pub head : IsHead is.declared (head_of w)
     head = head_is is.declared (head_of w) is.of.head
 
-    bounds-same : window_bounds w ≡ rect o.origin.x o.origin.y is.declared.node.w (window_head is.declared).h
+    pub bounds-same : window_bounds w ≡ rect o.origin.x o.origin.y is.declared.node.w (window_head is.declared).h
     bounds-same =
         ap (λ kept. rect w.corner.x w.corner.y kept.w kept.h) head.is
         ∙ ap (λ corner. rect corner.x corner.y is.declared.node.w (window_head is.declared).h) is.corner
 
-    alone : (is_active : Bool) → stack_layers d is_active (o ∷ []) ≡ window_layers d is_active o.origin is.declared ++ []
+    alone : (is_active : Bool) → stack_layers d is_active (o ∷ []) ≡ window_layers d is_active o.origin o.sheet is.declared ++ []
     alone is_active = rw is.named refl
 
-    alone-over : (is_active : Bool) (under : Glyph) → cell_over (stack_layers d is_active (o ∷ [])) column row under ≡ cell_over (window_layers d is_active o.origin is.declared) column row under
+    pub alone-over : (is_active : Bool) (under : Glyph) → cell_over (stack_layers d is_active (o ∷ [])) column row under ≡ cell_over (window_layers d is_active o.origin o.sheet is.declared) column row under
     alone-over is_active under =
-        ap (λ layers. cell_over layers column row under) (alone is_active) ∙ over-append (window_layers d is_active o.origin is.declared) [] column row under
+        ap (λ layers. cell_over layers column row under) (alone is_active) ∙ over-append (window_layers d is_active o.origin o.sheet is.declared) [] column row under
 
     -- off its bounds and its shadow
     open-off : (is_active : Bool) (under : Glyph) → has (with_shadow (window_bounds w)) (pos column) (pos row) ≡ false → cell_over (stack_layers d is_active (o ∷ [])) column row under ≡ under
     open-off is_active under off =
         alone-over is_active under
-        ∙ window-off d is.declared o.origin column row is.texts head.tall is_active (subst (λ r. has (with_shadow r) (pos column) (pos row) ≡ false) bounds-same off) under
+        ∙ window-off d is.declared o.origin column row o.sheet is.texts head.tall is_active (subst (λ r. has (with_shadow r) (pos column) (pos row) ≡ false) bounds-same off) under
 
     -- off its bounds
     passive-off : (is_active other : Bool) (under : Glyph) → has (window_bounds w ∷ []) (pos column) (pos row) ≡ false
         → cell_over (stack_layers d is_active (o ∷ [])) column row under ≡ cell_over (stack_layers d other (o ∷ [])) column row under
     passive-off is_active other under off =
         alone-over is_active under
-        ∙ activity-off d is.declared o.origin column row is.texts head.tall is_active other
+        ∙ activity-off d is.declared o.origin column row o.sheet is.texts head.tall is_active other
         (λ i. false-true off (has-one (window_bounds w) (pos column) (pos row) (subst (λ r. IsIn r (pos column) (pos row)) (sym bounds-same) i))) under
         ∙ sym (alone-over other under)
 

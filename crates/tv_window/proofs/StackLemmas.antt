@@ -12,6 +12,7 @@ use Rattle.tv_cells.specs.Rectangle.{sized}
 use Rattle.tv_cells.specs.Repainting.{clipped, within}
 use Rattle.tv_cells.specs.declared.rect.Point.{Point}
 use Rattle.tv_cells.specs.declared.rect.Rect.{Rect}
+use Rattle.tv_cells.specs.Sheets.{inlaid}
 use Rattle.tv_cells.specs.declared.canvas.Canvas.{Canvas}
 use Rattle.tv_model.specs.Screen.Faces.{FaceOf, FrameLook, frame_face, frame_look}
 use Rattle.tv_model.specs.Description.Heads.{window_head}
@@ -126,7 +127,7 @@ module _ {V : Type 0} (look : V → Leaf) (env : Env) (lent : IsOfWindow env) (d
     placed = ap (λ head. rect x y head.w head.h) is.is
 
     abbrev face_in : FrameLook → FaceOf
-    face_in frame = frame_face (natural w) (natural own.h) own.title frame
+    face_in frame = inlaid window.sheet (natural w) (natural own.h) (frame_face (natural w) (natural own.h) own.title frame)
 
     abbrev views : List Layer
     views = flat_map (window_leaf d window.corner) (reverse (leaf_list declared.views))
@@ -136,14 +137,14 @@ module _ {V : Type 0} (look : V → Leaf) (env : Env) (lent : IsOfWindow env) (d
         ++ Painted (inner d x y w own.h) (natural w) (natural own.h) (face_in (frame_look (colour_in env.chain.now) owners.Window (natural own.number) env.is_active)) ∷ [])
         ++ Shadow (window_canvas d) (rect x y w own.h) ∷ []
     drawn =
-        ap (λ t. (t ++ window_frame_layer env (sub (window_canvas d) (window_bounds window)) (head_of window) ∷ []) ++ shadow_of window ∷ []) (leaves_drawn declared.node declared.views own.h window fresh is.tall placed small texts)
-        ∙ ap (λ head. (fresh_layers env (body d x y w own.h) declared.views ++ window_frame_layer env (sub (window_canvas d) (rect x y head.w head.h)) head ∷ []) ++ Shadow (window_canvas d) (rect x y head.w head.h) ∷ []) is.is
+        ap (λ t. (t ++ window_frame_layer env (sub (window_canvas d) (window_bounds window)) window.sheet (head_of window) ∷ []) ++ shadow_of window ∷ []) (leaves_drawn declared.node declared.views own.h window fresh is.tall placed small texts)
+        ∙ ap (λ head. (fresh_layers env (body d x y w own.h) declared.views ++ window_frame_layer env (sub (window_canvas d) (rect x y head.w head.h)) window.sheet head ∷ []) ++ Shadow (window_canvas d) (rect x y head.w head.h) ∷ []) is.is
 
-    shown : (a : Bool) → declared_window d a window.corner declared
+    shown : (a : Bool) → declared_window d a window.corner window.sheet declared
         ≡ views ++ (Painted (corner d x y w own.h) (natural w) (natural own.h) (face_in (frame_look attribute_of owners.Window (natural own.number) a)) ∷ Shadow (corner d x y w own.h) (sized (natural w) (natural own.h)) ∷ [])
     shown a = refl
 
-    pub window_same : ShowsSame (drawn_window look env (window_canvas d) window ++ shadow_of window ∷ []) (declared_window d env.is_active window.corner declared)
+    pub window_same : ShowsSame (drawn_window look env (window_canvas d) window ++ shadow_of window ∷ []) (declared_window d env.is_active window.corner window.sheet declared)
     window_same =
         let seen = frame_look (colour_in env.chain.now) owners.Window (natural own.number) env.is_active in
         let told = frame_look attribute_of owners.Window (natural own.number) env.is_active in
@@ -170,9 +171,9 @@ module _ {V : Type 0} (look : V → Leaf) (env : Env) (lent : IsOfWindow env) (d
     stack_declared (o ∷ stack) front behind old mid after new are small below shadow here =
         let one = are.0 in
         let drawn = drawn_window look env (window_canvas d) front in
-        let shown = declared_window d env.is_active o.origin one.declared in
-        let same = clipped-same r (drawn ++ shadow_of front ∷ []) shown (subst (λ corner. ShowsSame (drawn ++ shadow_of front ∷ []) (declared_window d env.is_active corner one.declared)) one.corner
-        (window_same front one.declared (head_is one.declared (head_of front) one.of.head) one.of.body one.texts small)) in
+        let shown = declared_window d env.is_active o.origin o.sheet one.declared in
+        let same = clipped-same r (drawn ++ shadow_of front ∷ []) shown (subst (λ sheet. ShowsSame (drawn ++ shadow_of front ∷ []) (declared_window d env.is_active o.origin sheet one.declared)) one.sheet (subst (λ corner. ShowsSame (drawn ++ shadow_of front ∷ []) (declared_window d env.is_active corner front.sheet one.declared)) one.corner
+        (window_same front one.declared (head_is one.declared (head_of front) one.of.head) one.of.body one.texts small))) in
         let laid = subst (λ layers. Lays layers after new) (window-within look env r (window_canvas d) front) here in
         let window = lays_same _ _ mid new same (lays_as _ _ mid new (sym (map-append (clipped r) drawn (shadow_of front ∷ []))) (lays_then (map (clipped r) (shadow_of front ∷ [])) (map (clipped r) drawn) mid after new shadow laid)) in
         rw one.named

@@ -1,7 +1,7 @@
 -- What windows damage.
 use Rattle.std.specs.Ordering.{int_eq}
-use Rattle.std.specs.Prelude.{ℕ, zero, suc, pos, ◌-◌, nat_le, Bool, ◌&&◌, if◌then◌else◌, List, [], ◌∷◌, ◌++◌}
-use Rattle.std.specs.Prelude.{Option, Some, None, position, slice_get}
+use Rattle.std.specs.Prelude.{ℕ, zero, suc, pos, ◌-◌, ◌==◌, nat_le, Bool, ◌&&◌, if◌then◌else◌, List, [], ◌∷◌, ◌++◌}
+use Rattle.std.specs.Prelude.{Option, Some, None, find, position, slice_get}
 use Rattle.tv_cells.specs.Damage.{Grows, with_shadow}
 use Rattle.tv_cells.specs.Layers.{is_in}
 use Rattle.tv_cells.specs.Picture.{Picture}
@@ -9,6 +9,7 @@ use Rattle.tv_cells.specs.Repainting.{AreAlike}
 use Rattle.tv_cells.specs.declared.rect.Point.{Point}
 use Rattle.tv_cells.specs.declared.rect.Rect.{Rect}
 use Rattle.tv_model.specs.declared.desc.Desc.{Desc}
+use Rattle.tv_model.specs.declared.node.Id.{Id}
 use Rattle.tv_machine.specs.Screen.Layers.{stack_layers}
 use Rattle.tv_machine.specs.Session.Dragging.{is_same_point}
 use Rattle.tv_machine.specs.State.{OpenWindow}
@@ -70,6 +71,14 @@ moved_rects windows (Some place) = raised_rects windows place
 abbrev pub closed_rects : {V : Type 0} → List (WindowOf V) → List Rect
 closed_rects [] = []
 closed_rects (front ∷ behind) = with_shadow (window_bounds front) ++ front_rects behind
+
+-- what shows otherwise where a sheet is laid in the window of an id: the window, if there is one
+abbrev pub laid_rects : {V : Type 0} → List (WindowOf V) → Id → List Rect
+laid_rects windows i = bounds (find (λ window. (head_of window).id.0 == i.0) windows)
+  where
+    bounds : {V : Type 0} → Option (WindowOf V) → List Rect
+    bounds None = []
+    bounds (Some window) = window_bounds window ∷ []
 
 -- the place of the window of a digit's number
 abbrev pub digit_place : {V : Type 0} → List (WindowOf V) → ℕ → Option ℕ

@@ -31,6 +31,7 @@ pub record IsDeclared {V : Type 0} (look : V → Leaf) (d : Desc) (o : OpenWindo
   pub declared : Window
   pub named : window_of d o.id ≡ Some declared
   pub corner : window.corner ≡ o.origin
+  pub sheet : window.sheet ≡ o.sheet
   pub of : IsWindowOf look declared.node declared.views window
   pub limited : IsLimitedWindowHead (head_of window)
   pub texts : All (IsTextInside declared.node) declared.views

@@ -1,13 +1,18 @@
 -- The open windows of a run, and what a description has to have so that its windows can stand so.
-use Rattle.std.specs.Prelude.{◌≡◌, ◌≢◌, All, List, [], ◌∷◌, Option, Some, None, IfSome, if◌then◌else◌}
+use Rattle.std.specs.Prelude.{◌≡◌, ◌≢◌, ◌==◌, Bool, true, false, All, List, [], ◌∷◌, find, Option, Some, None, IfSome, option_map, if◌then◌else◌}
+use Rattle.std.specs.Option.{option_and_then}
 use Rattle.std.specs.List.{AllPairs, AllZip}
 use Rattle.tv_cells.specs.declared.rect.Point.{Point}
+use Rattle.tv_cells.specs.declared.rect.Rect.{Rect}
 use Rattle.tv_view.specs.Meaning.{Leaf}
 use Rattle.tv_model.specs.declared.desc.Desc.{Desc}
 use Rattle.tv_model.specs.declared.desc.Window.{Window}
 use Rattle.tv_model.specs.declared.log.LogLine.TheVariants as lines
 use Rattle.tv_model.specs.declared.node.Id.{Id}
+use Rattle.tv_model.specs.Description.Heads.{window_head}
+use Rattle.tv_model.specs.Description.Rectangles.{rect}
 use Rattle.tv_machine.specs.Dialog.Mouse.{is_close_mark}
+use Rattle.tv_machine.specs.Screen.Bodies.{window_of}
 use Rattle.tv_machine.specs.Session.Commands.{with_line_logged}
 use Rattle.tv_machine.specs.Session.Desktop.{down_on_desktop, seen_from, window_under}
 use Rattle.tv_machine.specs.Session.Dragging.{is_grip}
@@ -49,6 +54,14 @@ pub record IsDesk {V : Type 0} (look : V → Leaf) (d : Desc) (stack : List Open
   pub windows : AreDeclared look d stack desk.windows.items.items
   pub apart : AreDistinct stack
 
+-- the rectangle of an open window of the description
+abbrev pub open_bounds : Desc → OpenWindow → Option Rect
+open_bounds d o = option_map (λ window. rect o.origin.x o.origin.y window.node.w (window_head window).h) (window_of d o.id)
+
+-- that of the one of an id
+abbrev pub bounds_in : Desc → Id → List OpenWindow → Option Rect
+bounds_in d i stack = option_and_then (open_bounds d) (find (λ o. o.id.0 == i.0) stack)
+
 -- the id of the front one
 abbrev pub front_id : List OpenWindow → Option Id
 front_id [] = None
@@ -69,6 +82,12 @@ abbrev pub hit_on : {V : Type 0} → WindowOf V → Point → Hit
 hit_on window p =
     if is_close_mark (seen_from window.corner p) then hits.CloseMark
     else if is_grip (head_of window).w (seen_from window.corner p) then hits.Grip window.corner else hits.Done
+
+-- whether that is anything
+abbrev pub is_hit : Hit → Bool
+is_hit hits.CloseMark = true
+is_hit (hits.Grip corner) = true
+is_hit hits.Done = false
 
 -- ---- what the flat machine does
 

@@ -1,27 +1,30 @@
 //! The open windows.
 
-ghost use Rattle.std.specs.Prelude.{◌≡◌, ◌≢◌, ◌==◌, ◌-◌, List, length, map, reverse, vec_capacity};
+ghost use Rattle.std.specs.Prelude.{◌≡◌, ◌≢◌, ◌==◌, ◌-◌, IfSome, List, is_some, length, map, reverse, vec_capacity};
 ghost use Rattle.tv_machine.specs.Screen.Layers.{stack_layers};
 ghost use Rattle.tv_machine.specs.Session.Commands.{close_front, do_command, last_first};
-ghost use Rattle.tv_machine.specs.Session.Desktop.{raise_found, window_of_digit};
+ghost use Rattle.tv_machine.specs.Session.Desktop.{raise_found, window_of_digit, window_under};
 ghost use Rattle.tv_machine.specs.Session.Dragging.{front_at, grabbed};
+ghost use Rattle.tv_machine.specs.Session.Laid.{laid_in_window};
+ghost use Rattle.tv_machine.specs.Session.Left.{is_window_down};
 ghost use Rattle.tv_machine.specs.Session.Start.{closed};
 ghost use Rattle.tv_machine.specs.State.{OpenWindow, State};
 ghost use Rattle.tv_model.specs.Description.Rectangles.{IsSmall};
 ghost use Rattle.tv_model.specs.declared.desc.Desc.{Desc};
 ghost use Rattle.tv_cells.specs.Layers.{Lays};
+ghost use Rattle.tv_cells.specs.Rectangle.{IsRectNear};
 ghost use Rattle.tv_cells.specs.Repainting.{clipped, within};
 ghost use Rattle.tv_cells.specs.declared.rect.Point.{Point as Declared};
-ghost use Rattle.tv_cells.specs.declared.rect.Rect.{Rect};
+ghost use Rattle.tv_cells.specs.declared.rect.Rect.{Rect as Region};
 ghost use Rattle.tv_faces.specs.Corners.{IsCorner};
 ghost use Rattle.tv_window.specs.DeclaredWindows.{IsOfWindow, window_canvas};
 ghost use Rattle.tv_cells.specs.Damage.{GrowsIn};
-ghost use Rattle.tv_window.specs.Damage.{AreStacksAlike, closed_rects, digit_place, dragged_front_rects, moved_rects, point_place, raised_rects, windows_of};
-ghost use Rattle.tv_window.specs.Desk.{AreFreshWindows, AreLawfulWindows, FrontStandsAt, IsDesk, down_on_desk, front_id, with_close_line};
+ghost use Rattle.tv_window.specs.Damage.{AreStacksAlike, closed_rects, digit_place, dragged_front_rects, laid_rects, moved_rects, point_place, raised_rects, windows_of};
+ghost use Rattle.tv_window.specs.Desk.{AreFreshWindows, AreLawfulWindows, FrontStandsAt, IsDesk, bounds_in, down_on_desk, front_id, with_close_line};
 
-use crate::places::{hit_on, place_of_digit, place_under};
+use crate::places::{hit_on, is_hit, place_of_digit, place_of_id, place_under};
 use crate::{WindowOf, draw_stack};
-use tv_cells::{Canvas, Damage, Point, Screen};
+use tv_cells::{Canvas, Damage, Point, Rect, Screen};
 use tv_group::Stack;
 use tv_model::Id;
 use tv_view::{Env, View};
@@ -87,6 +90,24 @@ impl<V: View> DeskOf<V> {
         }
     }
 
+    /// Whether `raise_number` finds a window for the character.
+    pub fn takes_digit(&self, letter: char) -> bool
+        ensures { (d : Desc) (s : State) → IsDesk V.meaning d s.windows self.now → result ≡ is_some (window_of_digit d s letter) }
+    {
+        place_of_digit(&self.windows.items, letter).is_some()
+    }
+
+    /// Whether a mouse down on the desktop brings a window to the front, closes the front one, or takes hold of it.
+    pub fn takes_down(&self, point: Point) -> bool
+        ensures { (d : Desc) (s : State) → IsDesk V.meaning d s.windows self.now
+            → result ≡ is_window_down d s.windows (window_under d s point) point }
+    {
+        let Some(place) = place_under(&self.windows.items, point) else {
+            return false;
+        };
+        place > 0 || is_hit(hit_on(&self.windows.items[place], point))
+    }
+
     /// Handles a mouse down on the desktop while neither a menu nor a dialog is open: brings a window that isn't the
     /// front one to the front, and adds what then shows otherwise to the damage. Returns what is left to be done.
     pub fn down(&mut self, point: Point, damage: &mut Damage) -> Hit
@@ -129,6 +150,33 @@ impl<V: View> DeskOf<V> {
     {
         if let Some(front) = self.windows.items.first_mut() {
             front.move_to(corner, damage);
+        }
+    }
+
+    /// Lays a sheet in the open window of an id, in the place of the one that lay there, or takes that away. Adds the
+    /// window to the damage. Does nothing where none has the id.
+    pub fn lay(&mut self, id: Id, sheet: Option<Screen>, damage: &mut Damage)
+        ensures desk { (d : Desc) (stack : List OpenWindow) → IsDesk V.meaning d stack self.old
+            → IsDesk V.meaning d (map (laid_in_window id sheet) stack) self.new }
+        ensures damage { (d : Desc) (stack : List OpenWindow) → IsDesk V.meaning d stack self.old
+            → AreStacksAlike d damage.new stack (map (laid_in_window id sheet) stack) }
+        ensures grown { GrowsIn (laid_rects (windows_of self.old) id) damage.old damage.new }
+        ensures room { vec_capacity self.new.windows.items ≡ vec_capacity self.old.windows.items }
+    {
+        if let Some(place) = place_of_id(&self.windows.items, id) {
+            let window = &mut self.windows.items[place];
+            window.lay_sheet(sheet, damage);
+        }
+    }
+
+    /// Returns the rectangle on the screen of the open window of an id, or `None` where none has it.
+    pub fn bounds_of(&self, id: Id) -> Option<Rect>
+        ensures is { (d : Desc) (stack : List OpenWindow) → IsDesk V.meaning d stack self.now → result ≡ bounds_in d id stack }
+        ensures near { IfSome result IsRectNear }
+    {
+        match place_of_id(&self.windows.items, id) {
+            Some(place) => Some(self.windows.items[place].bounds()),
+            None => None,
         }
     }
 
@@ -176,7 +224,7 @@ impl<V: View> DeskOf<V> {
     /// front one is drawn as active, and only where the environment says so.
     pub fn draw(&self, screen: &mut Screen, canvas: Canvas, env: &Env)
         requires { IsSmall canvas.origin.x × IsSmall canvas.origin.y }
-        ensures { (d : Desc) (r : Rect) (stack : List OpenWindow) → IsDesk V.meaning d stack self.now
+        ensures { (d : Desc) (r : Region) (stack : List OpenWindow) → IsDesk V.meaning d stack self.now
             → IsOfWindow env.now → canvas ≡ within r (window_canvas d)
             → Lays (map (clipped r) (stack_layers d env.now.is_active stack)) screen.old screen.new }
     {

@@ -1,6 +1,6 @@
 //! Which of the windows, from the front, a point or a digit means.
 
-ghost use Rattle.std.specs.Prelude.{◌≡◌, ◌-◌, ◌+ℤ◌, ◌-ℤ◌, ◌&&◌, if◌then◌else◌, nat_le, None, pos, position};
+ghost use Rattle.std.specs.Prelude.{◌≡◌, ◌==◌, ◌-◌, ◌+ℤ◌, ◌-ℤ◌, ◌&&◌, if◌then◌else◌, nat_le, None, pos, position};
 ghost use Rattle.std.specs.Ordering.{int_eq};
 ghost use Rattle.tv_cells.specs.Layers.{is_in};
 ghost use Rattle.tv_cells.specs.Rectangle.{IsPointNear, IsRectNear};
@@ -10,12 +10,13 @@ ghost use Rattle.tv_machine.specs.Dialog.Mouse.{is_close_mark};
 ghost use Rattle.tv_machine.specs.Session.Desktop.{seen_from};
 ghost use Rattle.tv_machine.specs.Session.Dragging.{is_grip};
 ghost use Rattle.tv_model.specs.Description.Rectangles.{rect};
-ghost use Rattle.tv_window.specs.Desk.{hit_on};
+ghost use Rattle.tv_window.specs.Desk.{hit_on, is_hit};
 ghost use Rattle.tv_window.specs.Window.{head_of, window_bounds};
 
 use crate::WindowOf;
 use crate::desk::Hit;
 use tv_cells::{Point, Rect};
+use tv_model::Id;
 
 fn has_point<V>(window: &WindowOf<V>, point: Point) -> bool
     ensures { result ≡ is_in (window_bounds window.now) point.x point.y }
@@ -40,6 +41,19 @@ fn place_numbered<V>(windows: &[WindowOf<V>], number: &i32) -> Option<usize>
     ensures { result ≡ position (λ window. int_eq (head_of window).number number.now) windows.now }
 {
     windows.iter().position(|window| has_number(window, number))
+}
+
+fn has_id<V>(window: &WindowOf<V>, id: Id) -> bool
+    ensures { result ≡ ((head_of window.now).id.0 == id.0) }
+{
+    window.id() == id
+}
+
+/// Finds the window of an id.
+pub(crate) fn place_of_id<V>(windows: &[WindowOf<V>], id: Id) -> Option<usize>
+    ensures { result ≡ position (λ window. (head_of window).id.0 == id.0) windows.now }
+{
+    windows.iter().position(|window| has_id(window, id))
 }
 
 /// Finds the window of a number that is a digit from 1 to 9.
@@ -99,6 +113,13 @@ fn is_on_grip(bounds: Rect, point: Point) -> bool
     ensures { result ≡ is_grip (bounds.b.x -ℤ bounds.a.x) (seen_from bounds.a point) }
 {
     top_row(bounds).contains(point) && !is_on_close_mark(bounds, point)
+}
+
+/// Whether anything is left to be done.
+pub(crate) fn is_hit(hit: Hit) -> bool
+    ensures { result ≡ is_hit hit }
+{
+    !matches!(hit, Hit::Done)
 }
 
 /// Returns what is left to be done after a mouse down on the front window.

@@ -3,15 +3,15 @@
 ghost use Rattle.std.specs.Prelude.{◌≡◌, ◌↔◌, IfOk, IfErr, IfSome, IsErr, IsTrue, Some, None};
 ghost use Rattle.tv_cells.specs.Rectangle.{IsRectNear};
 ghost use Rattle.tv_model.specs.Description.Rectangles.{IsSmall, IsSmallRect, corner_of};
-ghost use Rattle.tv_cells.specs.Damage.{AddsAll};
+ghost use Rattle.tv_cells.specs.Damage.{AddsAll, Grows, HasAll};
 ghost use Rattle.tv_cells.specs.Layers.{Lays};
 ghost use Rattle.tv_faces.specs.Corners.{IsCorner};
 ghost use Rattle.tv_window.specs.Damage.{dragged_rects};
 ghost use Rattle.tv_window.specs.Head.{IsLimitedWindowHead, declared_window_head};
-ghost use Rattle.tv_window.specs.Window.{IsFreshWindow, body_of, head_of, drawn_window, moved_to, window_bounds};
+ghost use Rattle.tv_window.specs.Window.{IsFreshWindow, body_of, head_of, drawn_window, laid_to, moved_to, window_bounds};
 
 use crate::head::Head;
-use tv_cells::{Canvas, Damage, Point, Rect, Screen, lay};
+use tv_cells::{Canvas, Damage, Inlaid, Point, Rect, Screen, lay};
 use tv_faces::Corner;
 use tv_group::GroupOf;
 use tv_model::{Id, Node};
@@ -26,6 +26,8 @@ pub struct WindowOf<V> {
     /// Where it stands, which changes when it is dragged.
     pub(crate) corner: Corner,
     pub(crate) body: GroupOf<V>,
+    /// What the program has laid in its interior.
+    pub(crate) sheet: Option<Screen>,
 }
 
 /// A window whose views are boxed.
@@ -58,6 +60,7 @@ impl<V> WindowOf<V> {
         requires corner { IsCorner (corner_of node.now) }
         ensures made { IfOk result (λ window. (Some (head_of window) ≡ declared_window_head node.now) × (body_of window ≡ body)) }
         ensures corner { IfOk result (λ window. window.corner ≡ corner_of node.now) }
+        ensures bare { IfOk result (λ window. window.sheet ≡ None) }
         ensures wrong { IsErr result ↔ (declared_window_head node.now ≡ None) }
         ensures back { IfErr result (λ e. e.1 ≡ body) }
     {
@@ -66,6 +69,7 @@ impl<V> WindowOf<V> {
                 head,
                 corner: Corner::new(corner(node)),
                 body,
+                sheet: None,
             }),
             None => Err((WrongKind, body)),
         }
@@ -109,6 +113,17 @@ impl<V> WindowOf<V> {
         self.corner = Corner::new(corner);
         damage.add_with_shadow(self.bounds());
     }
+
+    /// Lays a sheet in its interior, in the place of the one that lay there, or takes that away. Adds the window to the
+    /// damage.
+    pub fn lay_sheet(&mut self, sheet: Option<Screen>, damage: &mut Damage)
+        ensures laid { self.new ≡ laid_to sheet self.old }
+        ensures all { HasAll (window_bounds self.old) damage.new }
+        ensures grown { Grows (window_bounds self.old) damage.old damage.new }
+    {
+        damage.add(self.bounds());
+        self.sheet = sheet;
+    }
 }
 
 impl<V: View> WindowOf<V> {
@@ -119,6 +134,7 @@ impl<V: View> WindowOf<V> {
     {
         self.head.is_of(node)
             && self.corner.point() == corner(node)
+            && self.sheet.is_none()
             && self.body.is_fresh(node, views)
     }
 
@@ -130,7 +146,13 @@ impl<V: View> WindowOf<V> {
     {
         let inner = canvas.sub(self.bounds());
         let frame = self.head.frame(env);
-        lay(screen, inner, frame.width, frame.height, &frame);
+        let face = Inlaid {
+            face: &frame,
+            width: frame.width,
+            height: frame.height,
+            sheet: self.sheet.as_ref(),
+        };
+        lay(screen, inner, frame.width, frame.height, &face);
         self.body.draw(screen, inner, env);
     }
 }

@@ -3,6 +3,7 @@ use Rattle.std.proofs.Common.{◌≡◌, IsTrue, Bool, true, List, [], ◌∷◌
 use Rattle.std.proofs.lemmas.Bool.{false≢true}
 use Rattle.tv_cells.specs.Layers.{Layer, Painted, Shadow, ShowsSame}
 use Rattle.tv_cells.specs.Rectangle.{sized}
+use Rattle.tv_cells.specs.Sheets.{inlaid}
 use Rattle.tv_model.specs.declared.desc.Desc.{Desc}
 use Rattle.tv_model.specs.declared.desc.Dialog.{Dialog}
 use Rattle.tv_model.specs.declared.node.Id.{Id}
@@ -12,7 +13,7 @@ use Rattle.tv_model.specs.Description.Rectangles.{IsSmall}
 use Rattle.tv_model.specs.Description.Heads.{dialog_head}
 use Rattle.tv_model.specs.Description.Nodes.{height_of, is_dialog}
 use Rattle.tv_model.specs.Description.Numbers.{natural}
-use Rattle.tv_model.specs.Screen.Faces.{FrameLook, frame_face, frame_look, frame_role}
+use Rattle.tv_model.specs.Screen.Faces.{FaceOf, FrameLook, frame_face, frame_look, frame_role}
 use Rattle.tv_model.proofs.HeadLemmas.{dialog_head_of-Dialog}
 use Rattle.tv_palette.proofs.ColourLemmas.{leads_through}
 use Rattle.tv_palette.specs.Attributes.{attribute_of}
@@ -57,8 +58,9 @@ frame-coloured env of is_active =
 abbrev pub frame_layer : Desc → Env → OpenDialog → Dialog → Layer
 frame_layer desc env o d =
     Painted (dialog_canvas desc o d) (natural d.node.w) (natural (height_of d.node.kind))
+    (inlaid o.sheet (natural d.node.w) (natural (height_of d.node.kind))
     (frame_face (natural d.node.w) (natural (height_of d.node.kind)) (dialog_head d).title
-    (frame_look (colour_in env.chain.now) owners.Dialog 0 env.is_active))
+    (frame_look (colour_in env.chain.now) owners.Dialog 0 env.is_active)))
 
 -- its views on top of it
 abbrev pub tree_layers : Desc → Env → OpenDialog → Dialog → Modal → List Layer
@@ -73,7 +75,7 @@ module _ (desc : Desc) (d : Dialog) (lawful : IsLawfulDialog d) (one : HasOneDef
   abbrev frame_at : FrameLook → Layer
   frame_at look =
       Painted (corner desc o.origin.x o.origin.y d.node.w (height_of d.node.kind)) (natural d.node.w) (natural (height_of d.node.kind))
-      (frame_face (natural d.node.w) (natural (height_of d.node.kind)) (dialog_head d).title look)
+      (inlaid o.sheet (natural d.node.w) (natural (height_of d.node.kind)) (frame_face (natural d.node.w) (natural (height_of d.node.kind)) (dialog_head d).title look))
 
   abbrev shadow_at : Layer
   shadow_at =
@@ -88,14 +90,14 @@ module _ (desc : Desc) (d : Dialog) (lawful : IsLawfulDialog d) (one : HasOneDef
       append_assoc told (frame_at told_look ∷ []) (shadow_at ∷ [])
       ∙ ap (λ h. told
       ++ Painted (corner desc o.origin.x o.origin.y d.node.w h) (natural d.node.w) (natural h)
-      (frame_face (natural d.node.w) (natural h) (dialog_head d).title told_look)
+      (inlaid o.sheet (natural d.node.w) (natural h) (frame_face (natural d.node.w) (natural h) (dialog_head d).title told_look))
       ∷ Shadow (corner desc o.origin.x o.origin.y d.node.w h) (sized (natural d.node.w) (natural h)) ∷ []) (dialog-tall d)
 
   -- the open dialog with its shadow shows what the machine's layers show
   pub dialog-same : ShowsSame (tree_layers desc env o d m ++ shadow_layer desc o d ∷ []) (dialog_layers desc o overwriting d)
   dialog-same =
       let h = height_of d.node.kind in
-      let face = frame_face (natural d.node.w) (natural h) (dialog_head d).title in
+      let face : FrameLook → FaceOf = λ look. inlaid o.sheet (natural d.node.w) (natural h) (frame_face (natural d.node.w) (natural h) (dialog_head d).title look) in
       let seen = frame_look (colour_in env.chain.now) owners.Dialog 0 env.is_active in
       let looks : seen ≡ told_look =
       frame-coloured env of env.is_active ∙ ap (frame_look attribute_of owners.Dialog 0) active in

@@ -14,7 +14,7 @@ pub returns : goal.returns
 returns g c =
     let place = c.sub-inner.ensures ∙ ap (sub c.args.canvas) c.bounds.ensures.is in
     let frame = c.frame-frame.ensures in
-    let same = frame_is _ _ _ _ _ _ _ _ _ _ place frame.width frame.height frame.title frame.look in
+    let same = frame_is _ _ _ _ _ _ _ _ _ _ _ _ place frame.width frame.height frame.title frame.look c.as_ref.ensures.value in
     lays_onto _ _ _ c.lay.new.screen _ c.lay.ensures.size
     (λ layers shows. subst (λ layer. Shows (layer ∷ layers) c.lay.new.screen) same (c.lay.ensures.shows layers shows))
     (subst (λ canvas. Lays (leaves_layers c.args.env.now canvas (opened g.V.View.meaning c.args.self.now.body)) c.lay.new.screen c.draw.new.screen) place c.draw.ensures)
