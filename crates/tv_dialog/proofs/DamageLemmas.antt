@@ -1,15 +1,17 @@
 -- What a dialog shows otherwise lies in its damage.
-use Rattle.std.proofs.Common.{◌≡◌, ℕ, pos, false, List, ◌∷◌, [], ◌++◌, sym, ap, subst, ◌∙◌}
+use Rattle.std.proofs.Common.{◌≡◌, ℕ, pos, false, List, ◌∷◌, [], ◌++◌, Option, sym, ap, subst, ◌∙◌}
 use Rattle.tv_cells.specs.Damage.{Grows, HasAll, HasWithin}
 use Rattle.tv_cells.specs.Canvas.{sub}
 use Rattle.tv_cells.specs.Glyph.{Glyph}
 use Rattle.tv_cells.specs.Layers.{Layer, Painted, cell_over, is_in}
+use Rattle.tv_cells.specs.Picture.{Picture}
 use Rattle.tv_cells.specs.Rectangle.{shifted}
+use Rattle.tv_cells.specs.Sheets.{inlaid}
 use Rattle.tv_cells.specs.declared.canvas.Canvas.{Canvas}
 use Rattle.tv_cells.specs.declared.rect.Rect.{Rect}
 use Rattle.tv_model.specs.Description.Numbers.{natural}
 use Rattle.tv_model.specs.Description.Rectangles.{rect}
-use Rattle.tv_model.specs.Screen.Faces.{FrameLook, frame_face, frame_look}
+use Rattle.tv_model.specs.Screen.Faces.{FaceOf, FrameLook, frame_face, frame_look}
 use Rattle.tv_palette.specs.Palettes.{colour_in}
 use Rattle.tv_palette.specs.declared.role.Owner.TheVariants as owners
 use Rattle.tv_view.specs.Damage.{AllDamages, AllDrawn, AllEnvDamages, IsDrawnAlike}
@@ -37,11 +39,12 @@ module _ {V : Type 0} (look : V → Leaf) where
   -- ---- bodies
 
   -- one that a call changes
-  pub body-called : (old new : DialogOf V) → new.head ≡ old.head → new.corner ≡ old.corner → new.plan ≡ old.plan
+  pub body-called : (old new : DialogOf V) → new.head ≡ old.head → new.corner ≡ old.corner → new.sheet ≡ old.sheet → new.plan ≡ old.plan
       → AllDamages (group_bounds old.body) (opened look old.body) (opened look new.body) old.damage new.damage → BodyDrawn look old new
-  body-called old new head corner plan called = record {
+  body-called old new head corner sheet plan called = record {
     head = head;
     corner = corner;
+    sheet = sheet;
     plan = plan;
     body = all-drawn-of (group_bounds old.body) (opened look old.body) (opened look new.body) old.damage new.damage called;
   }
@@ -50,17 +53,22 @@ module _ {V : Type 0} (look : V → Leaf) where
   body-then old mid new p q = record {
     head = q.head ∙ p.head;
     corner = q.corner ∙ p.corner;
+    sheet = q.sheet ∙ p.sheet;
     plan = q.plan ∙ p.plan;
     body = all-drawn-then (opened look old.body) (opened look mid.body) (opened look new.body) old.damage mid.damage new.damage p.body q.body;
   }
 
   -- ---- dialogs
 
-  -- a dialog in a rectangle, with a head and a frame's look
-  abbrev shown : Rect → KeptDialogHead → FrameLook → Env → DialogOf V → Canvas → List Layer
-  shown place head seen env dialog c =
+  -- a frame with a sheet
+  abbrev framed : KeptDialogHead → Option Picture → FrameLook → FaceOf
+  framed head sheet seen = inlaid sheet (natural head.w) (natural head.h) (frame_face (natural head.w) (natural head.h) head.title seen)
+
+  -- a dialog in a rectangle, with a head, a sheet and a frame's look
+  abbrev shown : Rect → KeptDialogHead → Option Picture → FrameLook → Env → DialogOf V → Canvas → List Layer
+  shown place head sheet seen env dialog c =
       leaves_layers env (sub c place) (opened look dialog.body)
-      ++ Painted (sub c place) (natural head.w) (natural head.h) (frame_face (natural head.w) (natural head.h) head.title seen) ∷ []
+      ++ Painted (sub c place) (natural head.w) (natural head.h) (framed head sheet seen) ∷ []
 
   abbrev seen_in : Env → FrameLook
   seen_in env = frame_look (colour_in env.chain.now) owners.Dialog 0 env.is_active
@@ -71,7 +79,7 @@ module _ {V : Type 0} (look : V → Leaf) where
   dialog-outside env c dialog column row under out =
       let head = dialog.head in
       framed-outside (lent dialog.plan dialog.focus env) (dialog_bounds dialog) (opened look dialog.body) (natural head.w) (natural head.h)
-      (frame_face (natural head.w) (natural head.h) head.title (seen_in env)) c column row under out
+      (framed head dialog.sheet (seen_in env)) c column row under out
 
   -- the same head and corner have the same rectangle
   bounds-same : (old new : DialogOf V) → new.head ≡ old.head → new.corner ≡ old.corner → dialog_bounds new ≡ dialog_bounds old
@@ -80,11 +88,11 @@ module _ {V : Type 0} (look : V → Leaf) where
 
   -- what its views show otherwise by an event and by what it lends them then
   pub dialog-damages : (env first last : Env) (old new : DialogOf V) (start mid inner before after : List Rect) (bounds : Rect)
-      → new.head ≡ old.head → new.corner ≡ old.corner
+      → new.head ≡ old.head → new.corner ≡ old.corner → new.sheet ≡ old.sheet
       → AllDrawn (opened look old.body) (opened look new.body) start mid → first ≡ lent old.plan old.focus env → last ≡ lent new.plan new.focus env
       → AllEnvDamages (group_bounds new.body) first last (opened look new.body) mid inner
       → bounds ≡ dialog_bounds new → HasWithin bounds inner after → Grows bounds before after → DialogDamages look env old new before after
-  dialog-damages env first last old new start mid inner before after bounds head corner body lends relends told is within grown =
+  dialog-damages env first last old new start mid inner before after bounds head corner sheet body lends relends told is within grown =
       let xs = opened look old.body in
       let ys = opened look new.body in
       let place = dialog_bounds old in
@@ -93,18 +101,28 @@ module _ {V : Type 0} (look : V → Leaf) where
       let alike : IsDrawnAlike inner (λ c. leaves_layers first c xs) (λ c. leaves_layers last c ys) =
       alike-then inner (λ c. leaves_layers first c xs) (λ c. leaves_layers first c ys) (λ c. leaves_layers last c ys)
       (alike-more mid inner (λ c. leaves_layers first c xs) (λ c. leaves_layers first c ys) told.grown.kept (body.drawn first)) told.drawn in
-      let framed : IsDrawnAlike after (shown place old.head (seen_in env) first old) (shown place old.head (seen_in env) last new) =
-      framed-alike first last place xs ys (natural old.head.w) (natural old.head.h)
-      (frame_face (natural old.head.w) (natural old.head.h) old.head.title (seen_in env)) inner after
+      let same_frame : IsDrawnAlike after (shown place old.head old.sheet (seen_in env) first old) (shown place old.head old.sheet (seen_in env) last new) =
+      framed-alike first last place xs ys (natural old.head.w) (natural old.head.h) (framed old.head old.sheet (seen_in env)) inner after
       (subst (λ r. HasWithin r inner after) at within) alike in
       record {
         drawn =
-            subst (λ r. IsDrawnAlike after (λ c. drawn_dialog look env c old) (shown r new.head (seen_in env) (lent new.plan new.focus env) new)) (sym same)
-            (subst (λ h. IsDrawnAlike after (λ c. drawn_dialog look env c old) (shown place h (seen_in env) (lent new.plan new.focus env) new)) (sym head)
-            (subst (λ e. IsDrawnAlike after (λ c. drawn_dialog look env c old) (shown place old.head (seen_in env) e new)) relends
-            (subst (λ e. IsDrawnAlike after (shown place old.head (seen_in env) e old) (shown place old.head (seen_in env) last new)) lends framed)));
+            subst (λ r. IsDrawnAlike after (λ c. drawn_dialog look env c old) (shown r new.head new.sheet (seen_in env) (lent new.plan new.focus env) new)) (sym same)
+            (subst (λ h. IsDrawnAlike after (λ c. drawn_dialog look env c old) (shown place h new.sheet (seen_in env) (lent new.plan new.focus env) new)) (sym head)
+            (subst (λ s. IsDrawnAlike after (λ c. drawn_dialog look env c old) (shown place old.head s (seen_in env) (lent new.plan new.focus env) new)) (sym sheet)
+            (subst (λ e. IsDrawnAlike after (λ c. drawn_dialog look env c old) (shown place old.head old.sheet (seen_in env) e new)) relends
+            (subst (λ e. IsDrawnAlike after (shown place old.head old.sheet (seen_in env) e old) (shown place old.head old.sheet (seen_in env) last new)) lends same_frame))));
         grown = subst (λ r. Grows r before after) at grown;
       }
+
+  -- ---- with another sheet
+
+  pub laid-drawn : (env : Env) (dialog : DialogOf V) (sheet : Option Picture) (damage : List Rect) → HasAll (dialog_bounds dialog) damage
+      → IsDrawnAlike damage (λ c. drawn_dialog look env c dialog) (λ c. drawn_dialog look env c (record dialog { sheet = sheet }))
+  laid-drawn env dialog sheet damage all = record {
+    each = λ c column row off under.
+        let out = damage-off (dialog_bounds dialog) damage c column row all off in
+        dialog-outside env c dialog column row under out ∙ sym (dialog-outside env c (record dialog { sheet = sheet }) column row under out);
+  }
 
   -- ---- under another environment
 
@@ -118,15 +136,15 @@ module _ {V : Type 0} (look : V → Leaf) where
         let head = dialog.head in
         let place = dialog_bounds dialog in
         let xs = opened look dialog.body in
-        let framed : IsDrawnAlike after (shown place head (seen_in old) first dialog) (shown place head (seen_in old) last dialog) =
-        framed-alike first last place xs xs (natural head.w) (natural head.h)
-        (frame_face (natural head.w) (natural head.h) head.title (seen_in old)) inner after
+        let sheet = dialog.sheet in
+        let same_frame : IsDrawnAlike after (shown place head sheet (seen_in old) first dialog) (shown place head sheet (seen_in old) last dialog) =
+        framed-alike first last place xs xs (natural head.w) (natural head.h) (framed head sheet (seen_in old)) inner after
         (subst (λ r. HasWithin r inner after) is within) told.drawn in
         record {
           drawn =
-              subst (λ seen. IsDrawnAlike after (λ c. drawn_dialog look old c dialog) (shown place head seen (lent dialog.plan dialog.focus new) dialog)) (sym same)
-              (subst (λ e. IsDrawnAlike after (λ c. drawn_dialog look old c dialog) (shown place head (seen_in old) e dialog)) relends
-              (subst (λ e. IsDrawnAlike after (shown place head (seen_in old) e dialog) (shown place head (seen_in old) last dialog)) lends framed));
+              subst (λ seen. IsDrawnAlike after (λ c. drawn_dialog look old c dialog) (shown place head sheet seen (lent dialog.plan dialog.focus new) dialog)) (sym same)
+              (subst (λ e. IsDrawnAlike after (λ c. drawn_dialog look old c dialog) (shown place head sheet (seen_in old) e dialog)) relends
+              (subst (λ e. IsDrawnAlike after (shown place head sheet (seen_in old) e dialog) (shown place head sheet (seen_in old) last dialog)) lends same_frame));
           grown = subst (λ r. Grows r before after) is grown;
         }
 

@@ -1,11 +1,12 @@
 -- What a dialog draws is what the machine shows of the open one.
-use Rattle.std.proofs.Common.{◌≡◌, ◌∙◌, IsTrue, List, [], ◌∷◌, ◌++◌, ℤ, ℕ, Some, ap, map, sym, subst, refl}
+use Rattle.std.proofs.Common.{◌≡◌, ◌∙◌, IsTrue, List, [], ◌∷◌, ◌++◌, ℤ, ℕ, Option, Some, ap, map, sym, subst, refl}
 use Rattle.std.proofs.lemmas.Bool.{false≢true}
 use Rattle.std.proofs.lemmas.List.{map-append}
 use Rattle.tv_cells.specs.Canvas.{sub}
 use Rattle.tv_cells.specs.Layers.{Layer, Painted, Shadow, Lays, ShowsSame}
 use Rattle.tv_cells.specs.Picture.{Picture}
 use Rattle.tv_cells.specs.Repainting.{clipped, within}
+use Rattle.tv_cells.specs.Sheets.{inlaid}
 use Rattle.tv_cells.specs.declared.canvas.Canvas.{Canvas}
 use Rattle.tv_cells.specs.declared.rect.Rect.{Rect}
 use Rattle.tv_cells.proofs.RepaintingLemmas.{same-clipped}
@@ -68,13 +69,14 @@ kept_is node _ is head e = absurd (false≢true is)
 head-is : (d : Dialog) (head : KeptDialogHead) → Some head ≡ declared_dialog_head d.node → head ≡ own_head d
 head-is d head e = kept_is d.node d.node.kind d.own_kind head e
 
--- a frame by its canvas, its size and its title
-abbrev framed : Env → Canvas → ℤ → ℤ → List ℕ → Layer
-framed env c w h title = Painted c (natural w) (natural h) (frame_face (natural w) (natural h) title (frame_look (colour_in env.chain.now) owners.Dialog 0 env.is_active))
+-- a frame by its canvas, its sheet, its size and its title
+abbrev framed : Env → Canvas → Option Picture → ℤ → ℤ → List ℕ → Layer
+framed env c sheet w h title =
+    Painted c (natural w) (natural h) (inlaid sheet (natural w) (natural h) (frame_face (natural w) (natural h) title (frame_look (colour_in env.chain.now) owners.Dialog 0 env.is_active)))
 
 module _ {V : Type 0} (look : V → Leaf) (desc : Desc) (d : Dialog) (o : OpenDialog) (overwriting : List Id) (m : Modal) (env : Env)
     (dialog : DialogOf V) (own : IsLawfulDialog d) (s : Stands look d m.leaves m dialog) (shown : IsShown d o overwriting m env)
-    (at : dialog.corner ≡ o.origin) (small : IsSmallRect (dialog_bounds dialog)) where
+    (at : dialog.corner ≡ o.origin) (lies : dialog.sheet ≡ o.sheet) (small : IsSmallRect (dialog_bounds dialog)) where
   abbrev here : Env
   here = lent dialog.plan dialog.focus env
 
@@ -89,10 +91,11 @@ module _ {V : Type 0} (look : V → Leaf) (desc : Desc) (d : Dialog) (o : OpenDi
 
   layers-are : layers ≡ tree_layers desc here o d m
   layers-are =
-      ap (λ r. leaves_layers here (sub (desktop_canvas desc) r) (opened look dialog.body) ++ framed env (sub (desktop_canvas desc) r) dialog.head.w dialog.head.h dialog.head.title ∷ []) bounds-are
-      ∙ ap (λ xs. leaves_layers here (dialog_canvas desc o d) xs ++ framed env (dialog_canvas desc o d) dialog.head.w dialog.head.h dialog.head.title ∷ []) s.tree
-      ∙ ap (λ k. leaves_layers here (dialog_canvas desc o d) (tree_of d m) ++ framed env (dialog_canvas desc o d) k.w k.h k.title ∷ []) (head-is d dialog.head s.head)
-      ∙ ap (λ h. leaves_layers here (dialog_canvas desc o d) (tree_of d m) ++ framed env (dialog_canvas desc o d) d.node.w h (dialog_head d).title ∷ []) (sym (dialog-tall d))
+      ap (λ r. leaves_layers here (sub (desktop_canvas desc) r) (opened look dialog.body) ++ framed env (sub (desktop_canvas desc) r) dialog.sheet dialog.head.w dialog.head.h dialog.head.title ∷ []) bounds-are
+      ∙ ap (λ xs. leaves_layers here (dialog_canvas desc o d) xs ++ framed env (dialog_canvas desc o d) dialog.sheet dialog.head.w dialog.head.h dialog.head.title ∷ []) s.tree
+      ∙ ap (λ sheet. leaves_layers here (dialog_canvas desc o d) (tree_of d m) ++ framed env (dialog_canvas desc o d) sheet dialog.head.w dialog.head.h dialog.head.title ∷ []) lies
+      ∙ ap (λ k. leaves_layers here (dialog_canvas desc o d) (tree_of d m) ++ framed env (dialog_canvas desc o d) o.sheet k.w k.h k.title ∷ []) (head-is d dialog.head s.head)
+      ∙ ap (λ h. leaves_layers here (dialog_canvas desc o d) (tree_of d m) ++ framed env (dialog_canvas desc o d) o.sheet d.node.w h (dialog_head d).title ∷ []) (sym (dialog-tall d))
 
   over-shadow : ShowsSame (layers ++ shadow_layer desc o d ∷ []) (dialog_layers desc o overwriting d)
   over-shadow =

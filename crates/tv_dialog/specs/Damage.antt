@@ -10,11 +10,12 @@ use Rattle.tv_dialog.specs.Bounds.{dialog_bounds}
 use Rattle.tv_dialog.specs.Drawn.{drawn_dialog}
 use Rattle.tv_dialog.specs.declared.dialog.DialogOf.{DialogOf}
 
--- it stands where it did with what it keeps of its description, and its body is drawn as before but in the
+-- it stands where it did with its sheet and what it keeps of its description, and its body is drawn as before but in the
 -- damage that it keeps, under any one environment; no point has left that damage
 pub record BodyDrawn {V : Type 0} (look : V → Leaf) (old new : DialogOf V) : Type 0 where
   pub head : new.head ≡ old.head
   pub corner : new.corner ≡ old.corner
+  pub sheet : new.sheet ≡ old.sheet
   pub plan : new.plan ≡ old.plan
   pub body : AllDrawn (opened look old.body) (opened look new.body) old.damage new.damage
 

@@ -2,6 +2,7 @@
 use Rattle.std.specs.Prelude.{List, [], ◌∷◌, ◌++◌, Option, Some, if◌then◌else◌}
 use Rattle.tv_cells.specs.Canvas.{sub}
 use Rattle.tv_cells.specs.Layers.{Layer, Painted}
+use Rattle.tv_cells.specs.Sheets.{inlaid}
 use Rattle.tv_cells.specs.declared.canvas.Canvas.{Canvas}
 use Rattle.tv_group.specs.Opened.{opened}
 use Rattle.tv_model.specs.declared.node.Id.{Id}
@@ -25,12 +26,13 @@ default_now plan focus = if has_button_at plan.leaves focus then Some focus else
 abbrev pub lent : Plan → Id → Env → Env
 lent plan focus env = record env { focus = Some focus; default_now = default_now plan focus }
 
--- the frame with what it surrounds, in the dialog's rectangle
+-- the frame with what it surrounds and the sheet that lies there, in the dialog's rectangle
 abbrev pub dialog_frame_layer : {V : Type 0} → Env → Canvas → DialogOf V → Layer
 dialog_frame_layer env c dialog =
     Painted (sub c (dialog_bounds dialog)) (natural dialog.head.w) (natural dialog.head.h)
+    (inlaid dialog.sheet (natural dialog.head.w) (natural dialog.head.h)
     (frame_face (natural dialog.head.w) (natural dialog.head.h) dialog.head.title
-    (frame_look (colour_in env.chain.now) owners.Dialog 0 env.is_active))
+    (frame_look (colour_in env.chain.now) owners.Dialog 0 env.is_active)))
 
 -- the leaves of the body in the dialog's rectangle, the last on top, and the frame below them
 abbrev pub drawn_dialog : {V : Type 0} → (V → Leaf) → Env → Canvas → DialogOf V → List Layer

@@ -4,7 +4,7 @@ ghost use Rattle.std.specs.Prelude.{◌≡◌, ◌⊎◌, ◌≤◌, ◌<◌, �
 ghost use Rattle.tv_cells.specs.Rectangle.{IsRectNear};
 ghost use Rattle.tv_faces.specs.Corners.{IsCorner};
 ghost use Rattle.tv_model.specs.Description.Rectangles.{IsSmall, IsSmallRect, corner_of};
-ghost use Rattle.tv_cells.specs.Damage.{AddsAll};
+ghost use Rattle.tv_cells.specs.Damage.{AddsAll, Grows, HasAll};
 ghost use Rattle.tv_cells.specs.Layers.{Lays};
 ghost use Rattle.tv_cells.specs.Repainting.{clipped, within};
 ghost use Rattle.tv_cells.specs.declared.rect.Rect.{Rect as Rectangle};
@@ -37,7 +37,7 @@ use crate::log_lines::LogLines;
 use crate::plan::Plan;
 use crate::ruled::Ruled;
 use std::alloc::Global;
-use tv_cells::{Canvas, Damage, Point, Rect, Screen, lay};
+use tv_cells::{Canvas, Damage, Inlaid, Point, Rect, Screen, lay};
 use tv_event::{Command, CommandSet, Pending};
 use tv_faces::Corner;
 use tv_group::GroupOf;
@@ -54,6 +54,8 @@ pub struct DialogOf<V> {
     pub(crate) corner: Corner,
     pub(crate) plan: Plan,
     pub(crate) body: GroupOf<V>,
+    /// What the program has laid in its interior.
+    pub(crate) sheet: Option<Screen>,
     pub(crate) is_open: bool,
     /// The command by which it ended, until it opens again.
     pub(crate) ended: Option<Command>,
@@ -127,6 +129,7 @@ impl<V: View> DialogOf<V> {
         ensures corner { IfOk result (λ dialog. dialog.corner ≡ corner_of node.now) }
         ensures plan { IfOk result (λ dialog. dialog.plan ≡ plan_of views.now rules.now) }
         ensures body { IfOk result (λ dialog. dialog.body ≡ body) }
+        ensures bare { IfOk result (λ dialog. dialog.sheet ≡ None) }
         ensures closed { IfOk result (λ dialog. dialog.is_open ≡ false) }
         ensures unended { IfOk result (λ dialog. dialog.ended ≡ None) }
         ensures commands { IfOk result (λ dialog. (number : ℕ) → number < 256 → slice_index_or dialog.ruled.commands number false ≡ true) }
@@ -148,6 +151,7 @@ impl<V: View> DialogOf<V> {
                 }),
                 plan: kept.plan,
                 body,
+                sheet: None,
                 is_open: false,
                 ended: None,
                 ruled: Ruled::new(),
@@ -179,12 +183,13 @@ impl<V> DialogOf<V> {
         self.corner.point()
     }
 
-    /// Stands it with its corner at the point, and damages nothing: for a dialog that isn't shown.
+    /// Stands it with its corner at the point and no sheet in it, and damages nothing: for a dialog that isn't shown.
     pub fn stand_at(&mut self, corner: Point)
         requires { IsCorner corner }
-        ensures { self.new ≡ record self.old { corner = corner } }
+        ensures { self.new ≡ record self.old { corner = corner; sheet = None } }
     {
         self.corner = Corner::new(corner);
+        self.sheet = None;
     }
 
     /// Moves it so that its corner stands at the point. Adds to the damage what shows otherwise then: the dialog with
@@ -197,9 +202,20 @@ impl<V> DialogOf<V> {
     {
         if corner != self.corner() {
             damage.add_with_shadow(self.bounds());
-            self.stand_at(corner);
+            self.corner = Corner::new(corner);
             damage.add_with_shadow(self.bounds());
         }
+    }
+
+    /// Lays a sheet in its interior, in the place of the one that lay there, or takes that away. Adds the dialog to the
+    /// damage.
+    pub fn lay_sheet(&mut self, sheet: Option<Screen>, damage: &mut Damage)
+        ensures laid { self.new ≡ record self.old { sheet = sheet } }
+        ensures all { HasAll (dialog_bounds self.old) damage.new }
+        ensures grown { Grows (dialog_bounds self.old) damage.old damage.new }
+    {
+        damage.add(self.bounds());
+        self.sheet = sheet;
     }
 
     /// Whether it is open.
@@ -282,7 +298,7 @@ impl<V: View> DialogOf<V> {
         self.body.get(values);
     }
 
-    /// Draws the frame, the space in it, and the views on top, all seen from the canvas's origin. `env` is what the
+    /// Draws the frame, the sheet or the space in it, and the views on top, all seen from the canvas's origin. `env` is what the
     /// dialog's owner lends it; the dialog itself adds who has the focus and what Enter presses. Doesn't draw the
     /// shadow: if that was drawn before, the screen then shows the flat machine's layers of the open dialog, cut by
     /// whatever rectangle cuts the desktop's canvas.
@@ -292,13 +308,19 @@ impl<V: View> DialogOf<V> {
         ensures machine { (desc : Desc) (r : Rectangle) (d : Declared) (o : OpenDialog) (overwriting : List Ident)
             (m : Modal) (before : Picture) → IsLawfulDialog d
             → Stands V.meaning d m.leaves m self.now → IsShown d o overwriting m env.now → self.now.corner ≡ o.origin
-            → canvas ≡ within r (desktop_canvas desc)
+            → self.now.sheet ≡ o.sheet → canvas ≡ within r (desktop_canvas desc)
             → Lays (clipped r (shadow_layer desc o d) ∷ []) before screen.old
             → Lays (map (clipped r) (open_layers desc o overwriting d)) before screen.new }
     {
         let inner = canvas.sub(self.bounds());
         let frame = self.head.frame(env);
-        lay(screen, inner, frame.width, frame.height, &frame);
+        let face = Inlaid {
+            face: &frame,
+            width: frame.width,
+            height: frame.height,
+            sheet: self.sheet.as_ref(),
+        };
+        lay(screen, inner, frame.width, frame.height, &face);
         self.body.draw(screen, inner, &self.lent(env));
     }
 

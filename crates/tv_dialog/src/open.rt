@@ -30,6 +30,7 @@ impl<V: View> DialogOf<V> {
         ensures is_open { self.new.is_open ≡ true }
         ensures pending { self.new.pending ≡ [] }
         ensures corner { self.new.corner ≡ self.old.corner }
+        ensures sheet { self.new.sheet ≡ self.old.sheet }
         ensures added { HasAll (dialog_bounds self.old) damage.new }
         ensures grown { Grows (dialog_bounds self.old) damage.old damage.new }
     {

@@ -129,6 +129,7 @@ impl<V: View> DialogOf<V> {
             → Stands V.meaning d (dialog_step d event.now (begun_anew m)).leaves (dialog_step d event.now (begun_anew m)) self.new }
         ensures pending { self.new.pending ≡ [] }
         ensures corner { self.new.corner ≡ self.old.corner }
+        ensures sheet { self.new.sheet ≡ self.old.sheet }
         ensures damage { DialogDamages V.meaning env.now self.old self.new damage.old damage.new }
     {
         self.step_with_hold(self.held(), event, env, damage);
@@ -143,6 +144,7 @@ impl<V: View> DialogOf<V> {
             → Stands V.meaning d (dialog_step d event.now (begun_anew m)).leaves (dialog_step d event.now (begun_anew m)) self.new }
         ensures pending { self.new.pending ≡ [] }
         ensures corner { self.new.corner ≡ self.old.corner }
+        ensures sheet { self.new.sheet ≡ self.old.sheet }
         ensures damage { DialogDamages V.meaning env.now self.old self.new damage.old damage.new }
     {
         let was = self.focus;

@@ -1,8 +1,9 @@
 -- Where dialogs stand, which is no part of what they do.
-use Rattle.std.proofs.Common.{◌≡◌, ◌∙◌, ap, arith, subst, sym, List, Some}
+use Rattle.std.proofs.Common.{◌≡◌, ◌∙◌, ap, arith, subst, sym, List, Option, Some}
 use Rattle.std.specs.Prelude.{IfSome}
 use Rattle.std.proofs.lemmas.Int.{ints}
 use Rattle.std.proofs.lemmas.List.Elements.{All-head}
+use Rattle.tv_cells.specs.Picture.{Picture}
 use Rattle.tv_cells.specs.declared.rect.Point.{Point}
 use Rattle.tv_model.specs.declared.desc.Dialog.{Dialog}
 use Rattle.tv_model.specs.Description.LawfulNodes.{IsLimited}
@@ -59,13 +60,13 @@ same-bounds old new head corner =
 pub bounds-at : {V : Type 0} (dialog : DialogOf V) (p : Point) → dialog.corner ≡ p → dialog_bounds dialog ≡ rect p.x p.y dialog.head.w dialog.head.h
 bounds-at dialog p at = ap (λ q. rect q.x q.y dialog.head.w dialog.head.h) at
 
-module _ {V : Type 0} (look : V → Leaf) (d : Dialog) (m : Modal) (dialog : DialogOf V) (p : Point) where
-  -- a dialog rests the same wherever it stands
-  pub rests-at : Rests look d m dialog → Rests look d m (record dialog { corner = p })
+module _ {V : Type 0} (look : V → Leaf) (d : Dialog) (m : Modal) (dialog : DialogOf V) (p : Point) (sheet : Option Picture) where
+  -- a dialog rests the same wherever it stands, whatever sheet lies in it
+  pub rests-at : Rests look d m dialog → Rests look d m (record dialog { corner = p; sheet = sheet })
   rests-at is = record { head = is.head; plan = is.plan; tree = is.tree; steady = is.steady; marks = is.marks }
 
   -- and works the same
-  pub stands-at : (ruled : List LeafState) → Stands look d ruled m dialog → Stands look d ruled m (record dialog { corner = p })
+  pub stands-at : (ruled : List LeafState) → Stands look d ruled m dialog → Stands look d ruled m (record dialog { corner = p; sheet = sheet })
   stands-at ruled is = record {
     head = is.head;
     plan = is.plan;

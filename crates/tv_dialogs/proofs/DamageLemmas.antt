@@ -105,7 +105,7 @@ module _ {V : Type 0} (look : V → Leaf) (desc : Desc) (env : Env) (damage : Li
   unseen : has_seen damage (desktop_canvas desc) column row ≡ false
   unseen = seen-cell desc damage column row ∙ off
 
-  block-alike : (old new : DialogOf V) → dialog_bounds new ≡ dialog_bounds old → IsDrawnAlike damage (λ c. drawn_dialog look env c old) (λ c. drawn_dialog look env c new)
+  pub block-alike : (old new : DialogOf V) → dialog_bounds new ≡ dialog_bounds old → IsDrawnAlike damage (λ c. drawn_dialog look env c old) (λ c. drawn_dialog look env c new)
       → cell_over (own_layers old ++ shade old ∷ []) column row under ≡ cell_over (own_layers new ++ shade new ∷ []) column row under
   block-alike old new bounds alike =
       over-append (own_layers old) (shade old ∷ []) column row under
@@ -125,7 +125,7 @@ module _ {V : Type 0} (look : V → Leaf) (desc : Desc) (env : Env) (damage : Li
 -- ---- the open one
 
 -- what the open dialog that is declared so may be lent
-abbrev lent_open : Dialog → Env
+abbrev pub lent_open : Dialog → Env
 lent_open d = record {
   owner = owners.Dialog;
   chain = record { ref_ptr = (0, 0); now = dialog ∷ application ∷ [] };
@@ -136,7 +136,7 @@ lent_open d = record {
   is_active = true;
 }
 
-is-lent : (d : Dialog) → IsLentOpen d (lent_open d)
+pub is-lent : (d : Dialog) → IsLentOpen d (lent_open d)
 is-lent d = record { views = refl; palettes = record { owner = refl; chain = refl }; active = refl }
 
 module _ {V : Type 0} (look : V → Leaf) (d : Desc) (sound : HasSoundDialogs d) (s : State) (dialogs : DialogsOf V) (are : AreDialogs look d s dialogs)
@@ -145,7 +145,7 @@ module _ {V : Type 0} (look : V → Leaf) (d : Desc) (sound : HasSoundDialogs d)
   among = are.at o is
 
   -- it shows what the machine shows of it
-  open-shows : (env : Env) → IsLentOpen among.dialog env
+  pub open-shows : (env : Env) → IsLentOpen among.dialog env
       → ShowsSame (drawn_dialog look env (desktop_canvas d) among.kept.dialog ++ Shadow (desktop_canvas d) (dialog_bounds among.kept.dialog) ∷ []) (open_layers d s.overwriting s.dialog)
   open-shows env lent =
       let x = among.dialog in
@@ -158,7 +158,7 @@ module _ {V : Type 0} (look : V → Leaf) (d : Desc) (sound : HasSoundDialogs d)
       subst (λ layers. ShowsSame (drawn_dialog look env (desktop_canvas d) k ++ Shadow (desktop_canvas d) (dialog_bounds k) ∷ []) layers)
       (sym (ap (open_layers d s.overwriting) is ∙ same))
       (dialog-shows look d x o overwriting m env k own among.stands
-      (record { work = work; views = lent.views; palettes = lent.palettes; active = lent.active }) among.corner (subst IsSmallRect (sym (bounds-at k o.origin among.corner)) (bounds-small x own k.head o.origin among.stands.head among.near)))
+      (record { work = work; views = lent.views; palettes = lent.palettes; active = lent.active }) among.corner among.sheet (subst IsSmallRect (sym (bounds-at k o.origin among.corner)) (bounds-small x own k.head o.origin among.stands.head among.near)))
 
 -- ---- what becomes of it
 

@@ -8,6 +8,7 @@ use Rattle.tv_cells.specs.Glyph.{Glyph, shaded}
 use Rattle.tv_cells.specs.Layers.{Lays, Shadow, cell_over, covers, is_in, over}
 use Rattle.tv_cells.specs.Picture.{Picture}
 use Rattle.tv_cells.specs.Rectangle.{IsIn, shifted, sized}
+use Rattle.tv_cells.specs.Sheets.{inlaid}
 use Rattle.tv_cells.specs.declared.canvas.Canvas.{Canvas}
 use Rattle.tv_cells.specs.declared.rect.Rect.{Rect}
 use Rattle.tv_cells.proofs.DamageLemmas.{is_in-true, part-all}
@@ -116,7 +117,7 @@ module _ (d : Desc) (o : OpenDialog) (overwriting : List Id) (x : Dialog) (colum
     frame-hides : (under other : Glyph) → cell_over (dialog_layers d o overwriting x) column row under ≡ cell_over (dialog_layers d o overwriting x) column row other
     frame-hides under other =
         covered-hides (flat_map (dialog_leaf d x o overwriting) (reverse (filter (is_visible x o.leaves) (leaf_list x.views)))) (Shadow place (sized w h) ∷ []) place w h
-        (frame_face w h (dialog_head x).title (frame_look attribute_of owners.Dialog 0 true)) column row under other frame-covers
+        (inlaid o.sheet w h (frame_face w h (dialog_head x).title (frame_look attribute_of owners.Dialog 0 true))) column row under other frame-covers
 
 -- ---- the open dialog
 

@@ -4,6 +4,7 @@ use Rattle.std.specs.Prelude.{slice_get, slice_index_or, slice_set, unwrap_or}
 use Rattle.std.proofs.lemmas.Bool.{eq-eqb, eqb-true, false≢true}
 use Rattle.std.proofs.lemmas.List.{length-set}
 use Rattle.std.proofs.lemmas.Option.{slice_get_within}
+use Rattle.tv_cells.specs.Picture.{Picture}
 use Rattle.tv_cells.specs.declared.rect.Point.{Point}
 use Rattle.tv_model.specs.declared.node.Id.{Id}
 use Rattle.tv_model.specs.declared.desc.Desc.{Desc}
@@ -26,13 +27,13 @@ use Rattle.tv_dialogs.specs.declared.dialogs.DialogsOf.{DialogsOf}
 use Rattle.tv_dialogs.proofs.PlaceLemmas.{get-set-other, get-set-same, nothing-some, same-some}
 
 -- the open dialog after its work
-abbrev pub worked_dialog : ℕ → Point → Modal → OpenDialog
-worked_dialog place origin m = record { place = place; origin = origin; leaves = m.leaves; focus = m.focus; held = m.held }
+abbrev pub worked_dialog : ℕ → Point → Option Picture → Modal → OpenDialog
+worked_dialog place origin sheet m = record { place = place; origin = origin; sheet = sheet; leaves = m.leaves; focus = m.focus; held = m.held }
 
 -- the state where it stands
-abbrev pub standing_state : State → ℕ → Point → Modal → List LogLine → State
-standing_state s place origin m log = record s {
-  dialog = Some (worked_dialog place origin m);
+abbrev pub standing_state : State → ℕ → Point → Option Picture → Modal → List LogLine → State
+standing_state s place origin sheet m log = record s {
+  dialog = Some (worked_dialog place origin sheet m);
   overwriting = slice_set s.overwriting place m.overwriting;
   log = log;
 }
@@ -106,11 +107,11 @@ module _ {V : Type 0} (look : V → Leaf) (d : Desc) (s : State) (old new : Dial
 
   -- ---- it stands
 
-  pub stays-open : (origin : Point) (log : List LogLine) → after.dialog.corner ≡ origin → IsCorner origin → m.ended ≡ None → new.open ≡ Some place → new.is_held ≡ is_some m.held
+  pub stays-open : (origin : Point) (sheet : Option Picture) (log : List LogLine) → after.dialog.corner ≡ origin → after.dialog.sheet ≡ sheet → IsCorner origin → m.ended ≡ None → new.open ≡ Some place → new.is_held ≡ is_some m.held
       → after.values ≡ before.values → Stands look dialog m.leaves (record m { log = after.dialog.log.items }) after.dialog
-      → AreDialogs look d (standing_state s place origin m log) new
-  stays-open origin log corner near going opens held values stands =
-      let t = standing_state s place origin m log in
+      → AreDialogs look d (standing_state s place origin sheet m log) new
+  stays-open origin sheet log corner lies near going opens held values stands =
+      let t = standing_state s place origin sheet m log in
       let lines = after.dialog.log.items in
       record {
         count = written-count;
@@ -125,9 +126,9 @@ module _ {V : Type 0} (look : V → Leaf) (d : Desc) (s : State) (old new : Dial
             })
             (λ j apart. (refl, overwriting_other j apart));
         place = opens;
-        held = held ∙ sym (some-kept (is_some m.held) (worked_dialog place origin m));
+        held = held ∙ sym (some-kept (is_some m.held) (worked_dialog place origin sheet m));
         at = λ o e.
-            let this : worked_dialog place origin m ≡ o = same-some (worked_dialog place origin m) o e in
+            let this : worked_dialog place origin sheet m ≡ o = same-some (worked_dialog place origin sheet m) o e in
             subst (λ x. IsOpenAmong look d t x new.kept.items) this (record {
               dialog = dialog;
               there = there;
@@ -135,6 +136,7 @@ module _ {V : Type 0} (look : V → Leaf) (d : Desc) (s : State) (old new : Dial
               found = written-found;
               stands = subst (λ n. Stands look dialog m.leaves n after.dialog) (sym (again m (overwriting_at t place) lines overwriting_here going)) stands;
               corner = corner;
+              sheet = lies;
               near = near;
             });
         commands = written-commands;

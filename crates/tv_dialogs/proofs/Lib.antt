@@ -10,6 +10,7 @@ pub mod KeptLemmas
 pub mod LineLemmas
 pub mod LogLemmas
 pub mod MovedLemmas
+pub mod LaidLemmas
 pub mod OpenLemmas
 pub mod PlaceLemmas
 pub mod PlacedLemmas

@@ -47,7 +47,7 @@ module _ {V : Type 0} (look : V → Leaf) (d : Desc) (s : State) (old new : Dial
                 values = was.values;
                 modal = was.modal;
                 overwrites = was.overwrites;
-                rests = rests-at look among.dialog was.modal among.kept.dialog corner was.rests;
+                rests = rests-at look among.dialog was.modal among.kept.dialog corner among.kept.dialog.sheet was.rests;
               })
               (λ j apart. (refl, refl));
           place = opens ∙ are.place ∙ ap (λ x. option_map (λ y. y.place) x) is;
@@ -58,8 +58,9 @@ module _ {V : Type 0} (look : V → Leaf) (d : Desc) (s : State) (old new : Dial
                 there = among.there;
                 kept = after;
                 found = written-found look d s old new are o.place among.dialog among.there among.kept after among.found written lent m;
-                stands = stands-at look among.dialog (at_work s o among.kept.dialog.log.items) among.kept.dialog corner o.leaves among.stands;
+                stands = stands-at look among.dialog (at_work s o among.kept.dialog.log.items) among.kept.dialog corner among.kept.dialog.sheet o.leaves among.stands;
                 corner = refl;
+                sheet = among.sheet;
                 near = near;
               });
           commands = written-commands look d s old new are o.place among.dialog among.there among.kept after among.found written lent m;

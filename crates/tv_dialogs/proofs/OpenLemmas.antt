@@ -84,12 +84,12 @@ module _ {V : Type 0} (look : V → Leaf) (d : Desc) (s : State) (old : DialogsO
         sym (ap (λ t. t.log) state_is) ∙ append_assoc s.log (lines.Open dialog.node.id ∷ []) opening.log
         ∙ ap (λ ls. s.log ++ lines.Open dialog.node.id ∷ ls) (sym opened_stands.log ∙ sym (ap lines_by here))
 
-    pub opened-dialogs : new.commands ≡ old.commands → new.open ≡ Some place → new.is_held ≡ false → after.values ≡ before.values → after.dialog.corner ≡ corner_of dialog.node
+    pub opened-dialogs : new.commands ≡ old.commands → new.open ≡ Some place → new.is_held ≡ false → after.values ≡ before.values → after.dialog.corner ≡ corner_of dialog.node → after.dialog.sheet ≡ None
         → AreDialogs look d (open_dialog d place s) new
-    opened-dialogs lent opens_at held values corner =
+    opened-dialogs lent opens_at held values corner bare =
         let going : opening.ended ≡ None = ended-moved dialog (unfocused dialog (saved_at s place) (overwriting_at s place)) (first_focus dialog (opened_leaves dialog (saved_at s place))) in
         let loose : opening.held ≡ None = held-moved dialog (sound-there look d s old run place dialog there).lawful (unfocused dialog (saved_at s place) (overwriting_at s place)) (first_focus dialog (opened_leaves dialog (saved_at s place))) in
         subst (λ t. AreDialogs look d t new) state_is
         (stays-open look d s old new run.are place dialog there before after found written lent opening
-        (corner_of dialog.node) ((s.log ++ lines.Open dialog.node.id ∷ []) ++ opening.log) corner (lawful-corner dialog (sound-there look d s old run place dialog there).lawful) going opens_at (held ∙ ap is_some (sym loose)) values
+        (corner_of dialog.node) None ((s.log ++ lines.Open dialog.node.id ∷ []) ++ opening.log) corner bare (lawful-corner dialog (sound-there look d s old run place dialog there).lawful) going opens_at (held ∙ ap is_some (sym loose)) values
         (subst (λ ls. Stands look dialog opening.leaves (record opening { log = ls }) after.dialog) (sym opened_stands.log) opened_stands))

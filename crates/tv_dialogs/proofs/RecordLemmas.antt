@@ -104,6 +104,7 @@ module _ {V : Type 0} (look : V → Leaf) (d : Desc) (s : State) (old : DialogsO
             found = ap (slice_get new.kept.items) at ∙ found-after;
             stands = subst (λ k. Stands look x.dialog o.leaves (at_work s o k.dialog.log.items) k.dialog) same x.stands;
             corner = ap (λ k. k.dialog.corner) (sym same) ∙ x.corner;
+            sheet = ap (λ k. k.dialog.sheet) (sym same) ∙ x.sheet;
             near = x.near;
           })
           (λ other e.
@@ -115,6 +116,7 @@ module _ {V : Type 0} (look : V → Leaf) (d : Desc) (s : State) (old : DialogsO
             found = ap (λ xs. slice_get xs o.place) written ∙ get-set-other old.kept.items place o.place after apart ∙ x.found;
             stands = x.stands;
             corner = x.corner;
+            sheet = x.sheet;
             near = x.near;
           })
           refl

@@ -50,6 +50,6 @@ same-dialogs look d s t dialogs dialog saved overwriting are =
       kept = λ place x k there found. let is = all.kept place x k there found in record { values = is.values; modal = is.modal; overwrites = is.overwrites; rests = is.rests };
       place = all.place;
       held = all.held;
-      at = λ o is. let x = all.at o is in record { dialog = x.dialog; there = x.there; kept = x.kept; found = x.found; stands = x.stands; corner = x.corner; near = x.near };
+      at = λ o is. let x = all.at o is in record { dialog = x.dialog; there = x.there; kept = x.kept; found = x.found; stands = x.stands; corner = x.corner; sheet = x.sheet; near = x.near };
       commands = all.commands;
     }

@@ -64,7 +64,7 @@ module _ {V : Type 0} (look : V → Leaf) (d : Desc) (r : Rect) (s : State) (dia
   module _ (place : ℕ) (opens : dialogs.open ≡ Some place) (declared : Dialog) (kept : Kept V)
       (reads : declared ≡ slice_index_or d.dialogs place declared) (has : kept ≡ slice_index_or dialogs.kept.items place kept) where
     pub read-shown : (old new : Picture) → HasSoundDialogs d → ((o : OpenDialog) (overwriting : List Id) (m : Modal) → IsLawfulDialog declared
-        → Stands look declared m.leaves m kept.dialog → IsAtWork o overwriting m → kept.dialog.corner ≡ o.origin
+        → Stands look declared m.leaves m kept.dialog → IsAtWork o overwriting m → kept.dialog.corner ≡ o.origin → kept.dialog.sheet ≡ o.sheet
         → Lays (map (clipped r) (dialog_layers d o overwriting declared)) old new) → Lays (map (clipped r) (open_layers d s.overwriting s.dialog)) old new
     read-shown old new sound draws =
         let told = place-told look d s dialogs are place opens in
@@ -78,4 +78,5 @@ module _ {V : Type 0} (look : V → Leaf) (d : Desc) (r : Rect) (s : State) (dia
         (draws o (slice_index_or s.overwriting o.place []) m (sound-at d sound o.place declared there).lawful
         (subst (λ k. Stands look declared o.leaves m k.dialog) (sym (read-kept look d s dialogs are place opens o told.1 kept has))
         (subst (λ x. Stands look x o.leaves m among.kept.dialog) same among.stands))
-        work (ap (λ k. k.dialog.corner) (read-kept look d s dialogs are place opens o told.1 kept has) ∙ among.corner))
+        work (ap (λ k. k.dialog.corner) (read-kept look d s dialogs are place opens o told.1 kept has) ∙ among.corner)
+        (ap (λ k. k.dialog.sheet) (read-kept look d s dialogs are place opens o told.1 kept has) ∙ among.sheet))

@@ -66,6 +66,9 @@ module _ {V : Type 0} (look : V → Leaf) (d : Desc) (s : State) (dialogs : Dial
   pub read-corner : kept.dialog.corner ≡ o.origin
   read-corner = ap (λ k. k.dialog.corner) kept_is ∙ open_one.corner
 
+  pub read-sheet : kept.dialog.sheet ≡ o.sheet
+  read-sheet = ap (λ k. k.dialog.sheet) kept_is ∙ open_one.sheet
+
   -- what comes of it
   pub read-stands : (e : Event) (after : Kept V)
       → ((m : Modal) → IsReady look declared m kept.dialog
@@ -146,7 +149,7 @@ module _ {V : Type 0} (look : V → Leaf) (d : Desc) (s : State) (old : DialogsO
         stepped-log ∙ ap (λ ls. s.log ++ ls) (sym stands.log ∙ sym (ap lines_by found))
 
     module _ (lent : new.commands ≡ old.commands) (opens : new.open ≡ then_some after.dialog.is_open o.place)
-        (holds : new.is_held ≡ (after.dialog.is_open && is_some stepped.held)) (corner : after.dialog.corner ≡ o.origin)
+        (holds : new.is_held ≡ (after.dialog.is_open && is_some stepped.held)) (corner : after.dialog.corner ≡ o.origin) (lies : after.dialog.sheet ≡ o.sheet)
         (values : after.values ≡ values_after look among.kept.values after.dialog) where
       values_going : stepped.ended ≡ None → after.values ≡ among.kept.values
       values_going going =
@@ -169,7 +172,7 @@ module _ {V : Type 0} (look : V → Leaf) (d : Desc) (s : State) (old : DialogsO
           (λ none.
           let going : after.dialog.is_open ≡ true = stands.open ∙ ap is_none none in
           stays-open look d s old new run.are o.place among.dialog among.there among.kept after among.found written lent stepped
-          o.origin (s.log ++ stepped.log) corner among.near none (opens ∙ ap (λ b. then_some b o.place) going) (holds ∙ ap (λ b. b && is_some stepped.held) going) (values_going none)
+          o.origin o.sheet (s.log ++ stepped.log) corner lies among.near none (opens ∙ ap (λ b. then_some b o.place) going) (holds ∙ ap (λ b. b && is_some stepped.held) going) (values_going none)
           (subst (λ ls. Stands look among.dialog stepped.leaves (record stepped { log = ls }) after.dialog) (sym stands.log) stands))
           (λ number some.
           let shut : after.dialog.is_open ≡ false = stands.open ∙ ap is_none some in
@@ -192,7 +195,7 @@ module _ {V : Type 0} (look : V → Leaf) (d : Desc) (s : State) (old : DialogsO
         (subst (λ m. AreDialogs look d (after_work s o m m.ended) new) (sym still)
         (stays-open look d s old new run.are o.place among.dialog among.there among.kept among.kept among.found
         (ap (λ v. v.items) kept ∙ sym (set-itself old.kept.items o.place among.kept among.found)) lent (modal_of s o)
-        o.origin (s.log ++ []) among.corner among.near refl (opens ∙ run.are.place ∙ ap (λ x. option_map (λ y. y.place) x) is) (holds ∙ was-held) refl among.stands))
+        o.origin o.sheet (s.log ++ []) among.corner among.sheet among.near refl (opens ∙ run.are.place ∙ ap (λ x. option_map (λ y. y.place) x) is) (holds ∙ was-held) refl among.stands))
 
   -- the dialog shows what it showed
   pub dropped-alike : is_dropped e ≡ true → (damage : List Rect) → OpenAlike d damage s (to_dialog d o e s)

@@ -21,8 +21,8 @@ use Rattle.tv_dialogs.specs.declared.dialogs.DialogsOf.{DialogsOf}
 abbrev pub at_work : State → OpenDialog → List LogLine → Modal
 at_work s o log = record (modal_of s o) { log = log }
 
--- the dialog at the open one's place stands as the machine's does, and where it does, which is near the
--- screen
+-- the dialog at the open one's place stands as the machine's does, with its sheet, and where it does, which
+-- is near the screen
 pub record IsOpenAmong {V : Type 0} (look : V → Leaf) (d : Desc) (s : State) (o : OpenDialog)
     (all : List (Kept V)) : Type 0 where
   pub dialog : Dialog
@@ -31,6 +31,7 @@ pub record IsOpenAmong {V : Type 0} (look : V → Leaf) (d : Desc) (s : State) (
   pub found : slice_get all o.place ≡ Some kept
   pub stands : Stands look dialog o.leaves (at_work s o kept.dialog.log.items) kept.dialog
   pub corner : kept.dialog.corner ≡ o.origin
+  pub sheet : kept.dialog.sheet ≡ o.sheet
   pub near : IsCorner o.origin
 
 -- the dialogs of the description, with what their last ends saved and where typing overwrites, and which is

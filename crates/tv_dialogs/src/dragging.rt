@@ -1,6 +1,7 @@
-//! How the open dialog is dragged by its top row.
+//! Where the open dialog stands, and how it is dragged by its top row.
 
 ghost use Rattle.std.specs.Prelude.{◌≡◌, IfSome, None, Some, if◌then◌else◌, option_map, slice_get, vec_capacity};
+ghost use Rattle.tv_cells.specs.Rectangle.{IsRectNear};
 ghost use Rattle.tv_faces.specs.Corners.{IsCorner};
 ghost use Rattle.tv_machine.specs.Session.Desktop.{seen_from};
 ghost use Rattle.tv_machine.specs.Session.Dragging.{is_grip, is_grip_of, placed};
@@ -9,10 +10,11 @@ ghost use Rattle.tv_model.specs.declared.desc.Desc.{Desc as Declared};
 ghost use Rattle.tv_dialogs.specs.Damage.{Keeps, OpenAlike};
 ghost use Rattle.tv_dialogs.specs.Dialogs.{AreDialogs, AreOfRun};
 ghost use Rattle.tv_dialogs.specs.Handed.{IsPointGiven};
+ghost use Rattle.tv_dialogs.specs.Placing.{bounds_of_open};
 
 use crate::dialogs::DialogsOf;
 use crate::handed::seen_from;
-use tv_cells::{Damage, Point};
+use tv_cells::{Damage, Point, Rect};
 use tv_dialog::is_close_mark;
 use tv_model::{Desc, Id};
 use tv_view::View;
@@ -38,6 +40,17 @@ impl<V: View> DialogsOf<V> {
         let corner = dialog.corner();
         let width = dialog.bounds().b.x - corner.x;
         is_grip(width, seen_from(corner, point)).then_some(corner)
+    }
+
+    /// Returns the rectangle of the open dialog on the screen.
+    pub fn bounds(&self) -> Option<Rect>
+        ensures is { (d : Declared) (s : State) → AreDialogs V.meaning d s self.now → result ≡ bounds_of_open d s.dialog }
+        ensures near { IfSome result IsRectNear }
+    {
+        match self.at(self.open) {
+            Some(kept) => Some(kept.dialog.bounds()),
+            None => None,
+        }
     }
 
     /// Returns the id of the open dialog.

@@ -160,6 +160,7 @@ impl<V: View> Kept<V> {
             (dialog_step declared.now (event_from self.old.dialog.corner event.now) (begun_anew m)).leaves
             (dialog_step declared.now (event_from self.old.dialog.corner event.now) (begun_anew m)) self.new.dialog }
         ensures corner { self.new.dialog.corner ≡ self.old.dialog.corner }
+        ensures sheet { self.new.dialog.sheet ≡ self.old.dialog.sheet }
         ensures values { self.new.values ≡ values_after V.meaning self.old.values self.new.dialog }
         ensures damage { KeptDamages V.meaning declared.now self.old.dialog self.new.dialog damage.new }
         ensures ended { self.new.dialog.is_open ≡ false → HasShadowed (dialog_bounds self.new.dialog) damage.new }
@@ -217,7 +218,7 @@ impl<V: View> Kept<V> {
         requires { IsSmall canvas.origin.x × IsSmall canvas.origin.y }
         ensures { (desc : Desc) (r : Rectangle) (o : OpenDialog) (overwriting : List Id) (m : Modal) → IsLawfulDialog declared.now
             → Stands V.meaning declared.now m.leaves m self.now.dialog → IsAtWork o overwriting m → self.now.dialog.corner ≡ o.origin
-            → canvas ≡ within r (desktop_canvas desc)
+            → self.now.dialog.sheet ≡ o.sheet → canvas ≡ within r (desktop_canvas desc)
             → Lays (map (clipped r) (dialog_layers desc o overwriting declared.now)) screen.old screen.new }
     {
         let env = Env {

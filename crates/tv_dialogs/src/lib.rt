@@ -8,6 +8,7 @@ mod dragging;
 mod drawing;
 mod handed;
 mod kept;
+mod laying;
 mod opening;
 mod records;
 mod stepping;

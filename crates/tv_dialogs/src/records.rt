@@ -1,10 +1,10 @@
 //! The record with which each dialog opens next.
 
-ghost use Rattle.std.specs.Prelude.{◌≡◌, option_copied, vec_capacity};
+ghost use Rattle.std.specs.Prelude.{◌≡◌, option_copied, vec_capacity, [], is_some};
 ghost use Rattle.tv_machine.specs.State.{State};
 ghost use Rattle.tv_model.specs.declared.desc.Desc.{Desc};
-ghost use Rattle.tv_dialogs.specs.Dialogs.{AreDialogs, log_of_last};
-ghost use Rattle.tv_dialogs.specs.Records.{next_record};
+ghost use Rattle.tv_dialogs.specs.Dialogs.{AreOfRun, AreDialogs, log_of_last};
+ghost use Rattle.tv_dialogs.specs.Records.{current_of, next_record};
 ghost use Rattle.tv_laws.specs.Runs.{with_saved};
 
 use crate::dialogs::DialogsOf;
@@ -20,6 +20,22 @@ impl<V: View> DialogsOf<V> {
         match self.at(Some(place)) {
             Some(kept) => Some(kept.values.get()),
             None => None,
+        }
+    }
+
+    /// Puts the values that the fields of the open dialog have now into an empty record, in description order, and returns
+    /// whether one is open.
+    pub fn current(&self, values: &mut Record) -> bool
+        requires empty { values.old ≡ [] }
+        requires run { (d : Desc) × (s : State) × AreOfRun V.meaning d s self.now }
+        ensures { (d : Desc) (s : State) → AreOfRun V.meaning d s self.now → (result ≡ is_some s.dialog) × (values.new ≡ current_of s.dialog) }
+    {
+        match self.at(self.open) {
+            Some(kept) => {
+                kept.dialog.record(values);
+                true
+            }
+            None => false,
         }
     }
 

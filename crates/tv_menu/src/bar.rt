@@ -1,6 +1,6 @@
 //! The menu bar: which menu is open, and what events make of it.
 
-ghost use Rattle.std.specs.Prelude.{◌≡◌, ◌==◌, IfOk, None};
+ghost use Rattle.std.specs.Prelude.{◌≡◌, ◌==◌, IfOk, None, is_some};
 ghost use Rattle.tv_machine.specs.State.{State};
 ghost use Rattle.tv_machine.specs.Session.Commands.{open_first};
 ghost use Rattle.tv_model.specs.declared.desc.Desc.{Desc as Declared};
@@ -86,6 +86,13 @@ impl MenuBar {
         ensures stays { (d : Declared) → IsBarOf d self.old → IsBarOf d self.new }
     {
         self.open = None;
+    }
+
+    /// Whether the bar takes the event, where it is offered.
+    pub fn takes(&self, event: &Event) -> bool
+        ensures { (d : Declared) (s : State) → IsBarOf d self.now → s.menu ≡ open_of self.now → result ≡ is_some (bar_offer d event.now s) }
+    {
+        !matches!(self.effect(event), Effect::Leaves)
     }
 
     fn effect(&self, event: &Event) -> Effect

@@ -10,5 +10,5 @@ returns-then-ne-clause-damaged g c =
     let is = c.bounds-then-ne in
     let added = adds-then (with_shadow was.result) (with_shadow is.result) c.args.damage.now c.add_with_shadow.new.self c.add_with_shadow-then-ne.new.self
     c.add_with_shadow.ensures c.add_with_shadow-then-ne.ensures in
-    inr (subst (λ r. AddsAll (with_shadow r ++ with_shadow (dialog_bounds c.stand_at.new.self)) c.args.damage.now c.add_with_shadow-then-ne.new.self) was.ensures.is
+    inr (subst (λ r. AddsAll (with_shadow r ++ with_shadow (dialog_bounds (record c.args.self.now { corner = c.new-self.result }))) c.args.damage.now c.add_with_shadow-then-ne.new.self) was.ensures.is
     (subst (λ r. AddsAll (with_shadow was.result ++ with_shadow r) c.args.damage.now c.add_with_shadow-then-ne.new.self) is.ensures.is added))

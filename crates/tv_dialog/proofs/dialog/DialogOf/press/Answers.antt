@@ -45,8 +45,8 @@ returns-then-request-clause-drawn g c =
     let mid : DialogOf g.row.V.Denot = record old { body = c.handle.new.self; damage = c.handle.new.damage } in
     let asked : DialogOf g.row.V.Denot = c.request.new.self in
     let new : DialogOf g.row.V.Denot = record asked { body = c.handle-then-request.new.self; damage = c.handle-then-request.new.damage } in
-    body-then look old mid new (body-called look old mid refl refl refl c.handle.ensures.damage)
-    (body-then look mid asked new c.request.ensures.drawn (body-called look asked new refl refl refl c.handle-then-request.ensures.damage))
+    body-then look old mid new (body-called look old mid refl refl refl refl c.handle.ensures.damage)
+    (body-then look mid asked new c.request.ensures.drawn (body-called look asked new refl refl refl refl c.handle-then-request.ensures.damage))
 
 pub returns-else-request-clause-stands : goal.returns-else-request-clause-stands
 returns-else-request-clause-stands g c d m lawful lentby p is ready s =
@@ -75,7 +75,7 @@ returns-else-request-clause-drawn g c =
     let look = g.V.View.meaning in
     let old = c.args.self.now in
     let mid : DialogOf g.row.V.Denot = record old { body = c.handle.new.self; damage = c.handle.new.damage } in
-    body-then look old mid c.request.new.self (body-called look old mid refl refl refl c.handle.ensures.damage) c.request.ensures.drawn
+    body-then look old mid c.request.new.self (body-called look old mid refl refl refl refl c.handle.ensures.damage) c.request.ensures.drawn
 
 pub returns-in_default : goal.returns-in_default
 returns-in_default g c = record {
@@ -102,5 +102,5 @@ returns-in_default g c = record {
       let look = g.V.View.meaning in
       let old = c.args.self.now in
       let mid : DialogOf g.row.V.Denot = record old { body = c.handle.new.self; damage = c.handle.new.damage } in
-      body-then look old mid c.react.new.self (body-called look old mid refl refl refl c.handle.ensures.damage) c.react.ensures.drawn;
+      body-then look old mid c.react.new.self (body-called look old mid refl refl refl refl c.handle.ensures.damage) c.react.ensures.drawn;
 }

@@ -45,7 +45,7 @@ returns-then-request-clause-drawn g c =
     let asked : DialogOf g.row.V.Denot = c.request-in-FocusPress.new.self in
     let pressed : DialogOf g.row.V.Denot = record asked { body = c.press_item.new.self; damage = c.press_item.new.damage } in
     body-then look c.args.self.now asked c.reapply_rules.new.self c.request-in-FocusPress.ensures.drawn
-    (body-then look asked pressed c.reapply_rules.new.self (body-called look asked pressed refl refl refl c.press_item.ensures.damage) c.reapply_rules.ensures.drawn)
+    (body-then look asked pressed c.reapply_rules.new.self (body-called look asked pressed refl refl refl refl c.press_item.ensures.damage) c.reapply_rules.ensures.drawn)
 
 pub returns-else-request-clause-stands : goal.returns-else-request-clause-stands
 returns-else-request-clause-stands g c d ruled m lawful few going keeps s =

@@ -22,4 +22,4 @@ returns-clause-damage g c =
     let done = c.answer.ensures.drawn in
     let env = c.args.env.now in
     dialog-damages g.V.View.meaning env (lent answered.plan old.focus env) (lent answered.plan answered.focus env) old _ c.clear.new.self answered.damage c.refocus_damage.new.damage c.args.damage.now c.add_within.new.self
-    c.bounds.result done.head done.corner done.body (ap (λ p. lent p old.focus env) done.plan) refl c.refocus_damage.ensures c.bounds.ensures.is c.add_within.ensures.added c.add_within.ensures.grown
+    c.bounds.result done.head done.corner done.sheet done.body (ap (λ p. lent p old.focus env) done.plan) refl c.refocus_damage.ensures c.bounds.ensures.is c.add_within.ensures.added c.add_within.ensures.grown

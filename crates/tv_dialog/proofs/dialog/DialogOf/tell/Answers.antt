@@ -20,4 +20,4 @@ returns-clause-drawn g c =
     let look = g.V.View.meaning in
     let old = c.args.self.now in
     let mid : DialogOf g.row.V.Denot = record old { body = c.handle-reaction.new.self; damage = c.handle-reaction.new.damage } in
-    body-then look old mid c.react.new.self (body-called look old mid refl refl refl c.handle-reaction.ensures.damage) c.react.ensures.drawn
+    body-then look old mid c.react.new.self (body-called look old mid refl refl refl refl c.handle-reaction.ensures.damage) c.react.ensures.drawn

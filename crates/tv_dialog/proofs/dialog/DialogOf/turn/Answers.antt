@@ -31,7 +31,7 @@ returns-in-Key-clause-drawn g c =
     let look = g.V.View.meaning in
     let old = c.args.self.now in
     let mid : DialogOf g.row.V.Denot = record old { body = c.offer_in_phases-reaction.new.body; damage = c.offer_in_phases-reaction.new.damage } in
-    body-then look old mid c.react.new.self (record { head = refl; corner = refl; plan = refl; body = c.offer_in_phases-reaction.ensures.drawn }) c.react.ensures.drawn
+    body-then look old mid c.react.new.self (record { head = refl; corner = refl; sheet = refl; plan = refl; body = c.offer_in_phases-reaction.ensures.drawn }) c.react.ensures.drawn
 
 pub returns-in-Pass-clause-stands : goal.returns-in-Pass-clause-stands
 returns-in-Pass-clause-stands g c d m lawful views ready s =
@@ -53,7 +53,7 @@ returns-in-Pass-clause-drawn g c =
     let look = g.V.View.meaning in
     let old = c.args.self.now in
     let mid : DialogOf g.row.V.Denot = record old { body = c.offer_in_phases.new.body; damage = c.offer_in_phases.new.damage } in
-    body-then look old mid c.command.new.self (record { head = refl; corner = refl; plan = refl; body = c.offer_in_phases.ensures.drawn }) c.command.ensures.drawn
+    body-then look old mid c.command.new.self (record { head = refl; corner = refl; sheet = refl; plan = refl; body = c.offer_in_phases.ensures.drawn }) c.command.ensures.drawn
 
 -- no view takes a command
 pub returns-in_default : goal.returns-in_default

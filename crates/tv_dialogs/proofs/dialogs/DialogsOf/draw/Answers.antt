@@ -23,4 +23,4 @@ returns-in-Some g c r s sound are desktop =
     read-shown g.V.View.meaning c.args.desc.now r s c.args.self.now are c.in-Some.place c.in-Some.is c.index-as_slice-place.result c.index.result.now
     (c.index-as_slice-place.is ∙ ap (λ ds. slice_index_or ds c.in-Some.place c.index-as_slice-place.result) c.as_slice.ensures) c.index.ensures
     c.args.screen.now c.draw.new.screen sound
-    (λ o overwriting m lawful stands work corner. c.draw.ensures c.args.desc.now r o overwriting m lawful stands work corner desktop)
+    (λ o overwriting m lawful stands work corner lies. c.draw.ensures c.args.desc.now r o overwriting m lawful stands work corner lies desktop)

@@ -1,4 +1,4 @@
-use Rattle.std.proofs.Common.{◌<◌, ◌∙◌, ℕ, false, length, Some, ap, refl, sym, subst, slice_index_or}
+use Rattle.std.proofs.Common.{◌<◌, ◌∙◌, ℕ, false, length, None, Some, ap, refl, sym, subst, slice_index_or}
 use Rattle.std.proofs.lemmas.Option.{slice_get_read}
 use Rattle.std.specs.Vec.{with_item}
 use Rattle.tv_faces.specs.Corners.{IsCorner}
@@ -54,10 +54,11 @@ returns-clause-dialogs g c s run =
     let found = kept-found look d c.args.place c.args.self.now c.requires before c.index_mut-kept.ensures.value in
     let stands = λ (x : Dialog) (m : Modal) (lawful : IsLawfulDialog x) (rests : Rests look x m before.dialog).
     subst (λ values. Stands look x (opens x (Some (in_field_order x values)) m.overwriting).leaves (opens x (Some (in_field_order x values)) m.overwriting) c.reopen.new.self) c.get.ensures
-    (c.reopen.ensures.stands x m lawful (subst (Rests look x m) (sym c.stand_at.ensures) (rests-at look x m before.dialog c.corner_of.result rests))) in
+    (c.reopen.ensures.stands x m lawful (subst (Rests look x m) (sym c.stand_at.ensures) (rests-at look x m before.dialog c.corner_of.result None rests))) in
     opened-dialogs look d s c.args.self.now run c.args.place declared there before found
     _ (record { dialog = c.reopen.new.self; values = before.values }) refl stands refl refl refl refl
     (c.reopen.ensures.corner ∙ ap (λ x. x.corner) c.stand_at.ensures ∙ c.corner_of.ensures)
+    (c.reopen.ensures.sheet ∙ ap (λ x. x.sheet) c.stand_at.ensures)
 
 pub returns-clause-log : goal.returns-clause-log
 returns-clause-log g c s dialog run there =
@@ -68,7 +69,7 @@ returns-clause-log g c s dialog run there =
     let found = kept-found look d c.args.place c.args.self.now c.requires before c.index_mut-kept.ensures.value in
     let stands = λ (x : Dialog) (m : Modal) (lawful : IsLawfulDialog x) (rests : Rests look x m before.dialog).
     subst (λ values. Stands look x (opens x (Some (in_field_order x values)) m.overwriting).leaves (opens x (Some (in_field_order x values)) m.overwriting) c.reopen.new.self) c.get.ensures
-    (c.reopen.ensures.stands x m lawful (subst (Rests look x m) (sym c.stand_at.ensures) (rests-at look x m before.dialog c.corner_of.result rests))) in
+    (c.reopen.ensures.stands x m lawful (subst (Rests look x m) (sym c.stand_at.ensures) (rests-at look x m before.dialog c.corner_of.result None rests))) in
     opened-log look d s c.args.self.now run c.args.place dialog there before found
     (record c.args.self.now {
       kept = with_item c.args.self.now.kept c.args.place after;

@@ -11,7 +11,7 @@ use Rattle.tv_dialogs.proofs.LineLemmas.{still-dialogs}
 use Rattle.tv_dialogs.proofs.PlaceLemmas.{nothing-some, same-some}
 use Rattle.tv_dialogs.proofs.DamageLemmas.{stepped-alike}
 use Rattle.tv_dialogs.proofs.CurrentLemmas.{held-some}
-use Rattle.tv_dialogs.proofs.StepLemmas.{dropped-alike, dropped-dialogs, dropped-log, handed-dialogs, handed-log, held-stepped, read-corner, read-ready, read-stands}
+use Rattle.tv_dialogs.proofs.StepLemmas.{dropped-alike, dropped-dialogs, dropped-log, handed-dialogs, handed-log, held-stepped, read-corner, read-ready, read-sheet, read-stands}
 use Rattle.tv_dialogs.proofs.PlacedLemmas.{place-declared, place-kept, place-of, place-told, read-declared, read-kept}
 use Rattle.tv_dialogs.proofs.dialogs.DialogsOf.step.Goals as goal
 
@@ -86,6 +86,7 @@ returns-in-Some-clause-dialogs g c s o is given run =
     (c.then_some-self.ensures ∙ ap (λ b. then_some b c.in-Some.place) c.is_open.ensures ∙ ap (then_some c.step.new.self.dialog.is_open) at)
     (c.held_after-self.ensures ∙ held-stepped look d s old run o is e c.step.new.self stands given)
     (c.step.ensures.corner ∙ read-corner look d s old run o is c.in-Some.place c.in-Some.is c.index-as_slice-place.result kept reads c.index_mut-kept.ensures.value)
+    (c.step.ensures.sheet ∙ read-sheet look d s old run o is c.in-Some.place c.in-Some.is c.index-as_slice-place.result kept reads c.index_mut-kept.ensures.value)
     (c.step.ensures.values ∙ ap (λ k. values_after look k.values c.step.new.self.dialog) same)
 
 pub returns-in-Some-clause-log : goal.returns-in-Some-clause-log

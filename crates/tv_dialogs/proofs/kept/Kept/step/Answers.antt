@@ -45,3 +45,6 @@ returns-clause-damage g c =
 
 pub returns-clause-corner : goal.returns-clause-corner
 returns-clause-corner g c = ap (λ dialog. dialog.corner) c.save.ensures.dialog ∙ c.step_with_hold.ensures.corner
+
+pub returns-clause-sheet : goal.returns-clause-sheet
+returns-clause-sheet g c = ap (λ dialog. dialog.sheet) c.save.ensures.dialog ∙ c.step_with_hold.ensures.sheet
