@@ -114,7 +114,7 @@ module _ (e : Desc) (name : List ℕ) (starts : e.start ≡ Some name) (place : 
   s = with_empty_log opened
 
   abbrev o : OpenDialog
-  o = record { place = place; origin = corner_of x.node; leaves = m.leaves; focus = m.focus; held = m.held }
+  o = record { place = place; origin = corner_of x.node; sheet = None; leaves = m.leaves; focus = m.focus; held = m.held }
 
   abbrev works_on : Modal
   works_on = modal_of (close_menu s) o

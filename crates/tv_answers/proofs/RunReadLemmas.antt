@@ -19,6 +19,8 @@ use Rattle.tv_lang.specs.CanonicalDescription.{CanBeSpelled}
 use Rattle.tv_laws.proofs.RecordLemmas.{fields-are}
 use Rattle.tv_laws.proofs.RecordLaws.IdleLemmas.{opens-beside}
 use Rattle.tv_laws.proofs.RecordLaws.SavedLemmas.{saves-what-it-logs}
+use Rattle.tv_laws.specs.Sheets.{HasNoSheets}
+use Rattle.tv_laws.proofs.SheetLemmas.{runs-bare, starts-bare}
 use Rattle.tv_laws.proofs.RunLemmas.{closed_kept, runs-fit, start-fit}
 use Rattle.tv_laws.specs.Fit.{IsFitLeaf, IsStanding}
 use Rattle.tv_laws.specs.Records.{IsEnd, IsEndless, IsNoEnd, end_lines}
@@ -323,25 +325,25 @@ module _ (d : Desc) (can : CanBeSpelled d) (sound : IsSound d) where
   then_scripted : (L log : List LogLine) (screen text : List ℕ) (p : Progress) (after : State) → TextIsRead d p screen p → IsScripted L log text p after → IsScripted L log (screen ++ text) p after
   then_scripted L log screen text p after here t = record { reached = t.reached; reads = text_append d p p t.reached screen text here t.reads; holds = t.holds }
 
-  run_read : (script : List Item) (L : List LogLine) (p : Progress) (s : State) → IsFitState d s → All (λ window. IsNamed d window.id) s.windows → All AreCharacters (lines_after d s script) → Holds L s p
+  run_read : (script : List Item) (L : List LogLine) (p : Progress) (s : State) → IsFitState d s → HasNoSheets s → All (λ window. IsNamed d window.id) s.windows → All AreCharacters (lines_after d s script) → Holds L s p
       → IsScripted L (lines_after d s script) (texts session_after item_text (quiet (session s)) script) p (states session_after (quiet (session s)) script).state
-  run_read [] L p s f windows has h = record { reached = p; reads = text_nothing d p; holds = subst (λ log. Holds log s p) (sym (append-nil L)) h }
-  run_read (items.Event e ∷ script) L p s f windows has h =
+  run_read [] L p s f bare windows has h = record { reached = p; reads = text_nothing d p; holds = subst (λ log. Holds log s p) (sym (append-nil L)) h }
+  run_read (items.Event e ∷ script) L p s f bare windows has h =
       let after = step d s e in
       let rest = lines_after d after script in
       let r = event_read L p s e f windows (all_left AreCharacters after.log rest has) h in
-      let t = run_read script (L ++ after.log) r.reached after (runs-fit d dialogs s after f (by_event e refl)) (step_good d names s e f windows).1 (all_right AreCharacters after.log rest has) r.holds in
+      let t = run_read script (L ++ after.log) r.reached after (runs-fit d dialogs s after f (by_event e refl)) (runs-bare d s after bare (by_event e refl)) (step_good d names s e f windows).1 (all_right AreCharacters after.log rest has) r.holds in
       record {
         reached = t.reached;
         reads = text_append d p r.reached t.reached (log_text d after.log) (texts session_after item_text (quiet (session after)) script) (log_text_read d p r.reached after.log r.reads) t.reads;
         holds = subst (λ log. Holds log (states session_after (quiet (session after)) script).state t.reached) (append_assoc L after.log rest) t.holds;
       }
-  run_read (items.Shot ∷ script) L p s f windows has h =
+  run_read (items.Shot ∷ script) L p s f bare windows has h =
       then_scripted L (lines_after d s script) (shot_text (quiet (session s))) (texts session_after item_text (quiet (session s)) script) p (states session_after (quiet (session s)) script).state
-      (shot_read d width height p (with_empty_log s)) (run_read script L p s f windows has h)
-  run_read (items.Colors ∷ script) L p s f windows has h =
+      (shot_read d width height p (with_empty_log s) bare) (run_read script L p s f bare windows has h)
+  run_read (items.Colors ∷ script) L p s f bare windows has h =
       then_scripted L (lines_after d s script) (colors_text (quiet (session s))) (texts session_after item_text (quiet (session s)) script) p (states session_after (quiet (session s)) script).state
-      (colors_read d width height p (with_empty_log s)) (run_read script L p s f windows has h)
+      (colors_read d width height p (with_empty_log s)) (run_read script L p s f bare windows has h)
 
   -- ---- the start
 
@@ -377,7 +379,7 @@ module _ (d : Desc) (can : CanBeSpelled d) (sound : IsSound d) where
   characters_read script has =
       let log = (start d).log in
       let rest = lines_after d (start d) script in
-      let t = run_read script log (nothing_read d) (start d) (start-fit d dialogs) (start_good d names).1 (all_right AreCharacters log rest has) start_holds in
+      let t = run_read script log (nothing_read d) (start d) (start-fit d dialogs) (starts-bare d) (start_good d names).1 (all_right AreCharacters log rest has) start_holds in
       let text = texts session_after item_text (quiet (session (start d))) script in
       let whole = text_append d (nothing_read d) (nothing_read d) t.reached (log_text d log) text (log_text_read d (nothing_read d) (nothing_read d) log start_read) t.reads in
       ap (answers_of d) (whole_lines (log_text d log ++ text) (nothing_read d) t.reached whole)

@@ -1,5 +1,5 @@
 -- No cell of a screen is a line feed.
-use Rattle.std.proofs.Common.{◌≡◌, ℕ, ◌-◌, ◌+◌, ◌==◌, ◌&&◌, ◌||◌, not, Bool, true, false, List, [], ◌∷◌, ◌++◌, filter, flat_map, map, reverse, Option, Some, None, refl, ap, ◌∙◌}
+use Rattle.std.proofs.Common.{◌≡◌, ℕ, ◌-◌, ◌+◌, ◌==◌, ◌&&◌, ◌||◌, not, Bool, true, false, List, [], ◌∷◌, ◌++◌, filter, flat_map, map, reverse, Option, Some, None, refl, sym, ap, subst, ◌∙◌}
 use Rattle.std.specs.Prelude.{is_none, pos, slice_get, slice_index_or, if◌then◌else◌}
 use Rattle.std.specs.List.{AllByRecursion}
 use Rattle.std.proofs.lemmas.Bool.{eqb-true}
@@ -23,6 +23,8 @@ use Rattle.tv_machine.specs.Screen.Bodies.{body_layers, window_body_layers, wind
 use Rattle.tv_machine.specs.Screen.Layers.{box_layers, dialog_layers, dialog_leaf, layers_of, open_layers, stack_layers, window_layers, window_leaf}
 use Rattle.tv_machine.specs.Screen.LeafFaces.{leaf_faces}
 use Rattle.tv_machine.specs.State.{OpenDialog, OpenMenu, OpenWindow, State}
+use Rattle.tv_laws.specs.Sheets.{AreBare, HasNoSheets, IsBare}
+use Rattle.std.proofs.lemmas.List.Elements.{All-head, All-tail}
 use Rattle.tv_model.specs.declared.desc.Desc.{Desc}
 use Rattle.tv_model.specs.declared.desc.Dialog.{Dialog}
 use Rattle.tv_model.specs.declared.desc.Menu.{Menu}
@@ -135,42 +137,48 @@ boxes_clear d (Some o) = by (slice_get d.menus o.menu) refl
     by None e = rw e tt
     by (Some menu) e = rw e (box_clear menu o.item, (tt, tt))
 
-dialog_clear : (d : Desc) (o : OpenDialog) (overwriting : List Id) (dialog : Dialog) → AreClear (dialog_layers d o overwriting dialog)
-dialog_clear d o overwriting dialog =
-    appended (flat_map (dialog_leaf d dialog o overwriting) (reverse (filter (is_visible dialog o.leaves) (leaf_list dialog.views)))) (body_layers d o.origin dialog)
+-- without sheets, which may have any characters
+dialog_clear : (d : Desc) (o : OpenDialog) (overwriting : List Id) (dialog : Dialog) → o.sheet ≡ None → AreClear (dialog_layers d o overwriting dialog)
+dialog_clear d o overwriting dialog bare =
+    appended (flat_map (dialog_leaf d dialog o overwriting) (reverse (filter (is_visible dialog o.leaves) (leaf_list dialog.views)))) (body_layers d o.origin o.sheet dialog)
     (flattened (dialog_leaf d dialog o overwriting) (λ leaf. painted _ _ _ _ (faces_clear _ _ _ _ leaf.node.kind _)) (reverse (filter (is_visible dialog o.leaves) (leaf_list dialog.views))))
-    (frame_clear (natural dialog.node.w) (natural (dialog_head dialog).h) (dialog_head dialog).title (frame_look attribute_of owners.Dialog 0 true), (tt, tt))
+    (subst (λ sheet. AreClear (body_layers d o.origin sheet dialog)) (sym bare)
+    (frame_clear (natural dialog.node.w) (natural (dialog_head dialog).h) (dialog_head dialog).title (frame_look attribute_of owners.Dialog 0 true), (tt, tt)))
 
-open_clear : (d : Desc) (overwriting : List (List Id)) (o : Option OpenDialog) → AreClear (open_layers d overwriting o)
-open_clear d overwriting None = tt
-open_clear d overwriting (Some o) = by (slice_get d.dialogs o.place) refl
+open_clear : (d : Desc) (overwriting : List (List Id)) (o : Option OpenDialog) → IsBare o → AreClear (open_layers d overwriting o)
+open_clear d overwriting None bare = tt
+open_clear d overwriting (Some o) bare = by (slice_get d.dialogs o.place) refl
   where
     by : (found : Option Dialog) → slice_get d.dialogs o.place ≡ found → AreClear (open_layers d overwriting (Some o))
     by None e = rw e tt
-    by (Some dialog) e = rw e (dialog_clear d o (slice_index_or overwriting o.place []) dialog)
+    by (Some dialog) e = rw e (dialog_clear d o (slice_index_or overwriting o.place []) dialog bare)
 
-window_clear : (d : Desc) (is_active : Bool) (origin : Point) (window : Window) → AreClear (window_layers d is_active origin window)
+window_clear : (d : Desc) (is_active : Bool) (origin : Point) (window : Window) → AreClear (window_layers d is_active origin None window)
 window_clear d is_active origin window =
-    appended (flat_map (window_leaf d origin) (reverse (leaf_list window.views))) (window_body_layers d is_active origin window)
+    appended (flat_map (window_leaf d origin) (reverse (leaf_list window.views))) (window_body_layers d is_active origin None window)
     (flattened (window_leaf d origin) (λ leaf. painted _ _ _ _ (faces_clear _ _ _ _ leaf.node.kind _)) (reverse (leaf_list window.views)))
     (frame_clear (natural window.node.w) (natural (window_head window).h) (window_head window).title (frame_look attribute_of owners.Window (natural (window_head window).number) is_active), (tt, tt))
 
-stack_clear : (d : Desc) (is_active : Bool) (windows : List OpenWindow) → AreClear (stack_layers d is_active windows)
-stack_clear d is_active [] = tt
-stack_clear d is_active (o ∷ behind) = by (window_of d o.id) refl (stack_clear d false behind)
+abbrev IsWindowBare : OpenWindow → Type 0
+IsWindowBare window = window.sheet ≡ None
+
+stack_clear : (d : Desc) (is_active : Bool) (windows : List OpenWindow) → AreBare windows → AreClear (stack_layers d is_active windows)
+stack_clear d is_active [] bare = tt
+stack_clear d is_active (o ∷ behind) bare = by (window_of d o.id) refl (stack_clear d false behind (All-tail IsWindowBare o behind bare))
   where
     by : (found : Option Window) → window_of d o.id ≡ found → AreClear (stack_layers d false behind) → AreClear (stack_layers d is_active (o ∷ behind))
     by None e rest = rw e rest
-    by (Some window) e rest = rw e (appended (window_layers d is_active o.origin window) (stack_layers d false behind) (window_clear d is_active o.origin window) rest)
+    by (Some window) e rest = rw e (appended (window_layers d is_active o.origin o.sheet window) (stack_layers d false behind)
+        (subst (λ sheet. AreClear (window_layers d is_active o.origin sheet window)) (sym (All-head IsWindowBare o behind bare)) (window_clear d is_active o.origin window)) rest)
 
-layers_clear : (d : Desc) (s : State) → AreClear (layers_of d s)
-layers_clear d s = (
+layers_clear : (d : Desc) (s : State) → HasNoSheets s → AreClear (layers_of d s)
+layers_clear d s bare = (
   (λ x y. title_clear d _ (title_spot d x)),
   (
     (λ x y. status_clear _ (status_spot d x)),
     appended (box_layers d s.menu) _ (boxes_clear d s.menu)
-        (appended (open_layers d s.overwriting s.dialog) _ (open_clear d s.overwriting s.dialog)
-        (appended (stack_layers d (is_none s.dialog) s.windows) _ (stack_clear d (is_none s.dialog) s.windows) ((λ x y. char_clear _), tt))),
+        (appended (open_layers d s.overwriting s.dialog) _ (open_clear d s.overwriting s.dialog bare.1)
+        (appended (stack_layers d (is_none s.dialog) s.windows) _ (stack_clear d (is_none s.dialog) s.windows bare.0) ((λ x y. char_clear _), tt))),
   ),
 )
 
@@ -184,6 +192,6 @@ cell_clear (Shadow c r ∷ layers) column row clear =
     bool_cases (covers c (shifted r aside) column row && not (is_in (shifted r c.origin) (pos column) (pos row))) (λ b. IsClear (if b then shaded (cell_of layers column row) else cell_of layers column row))
     (λ over. cell_clear layers column row clear.1) (λ beside. cell_clear layers column row clear.1)
 
--- each cell of a screen
-pub screen_clear : (d : Desc) (s : State) (column row : ℕ) → IsClear (cell_of (layers_of d s) column row)
-screen_clear d s column row = cell_clear (layers_of d s) column row (layers_clear d s)
+-- each cell of a screen without sheets
+pub screen_clear : (d : Desc) (s : State) (column row : ℕ) → HasNoSheets s → IsClear (cell_of (layers_of d s) column row)
+screen_clear d s column row bare = cell_clear (layers_of d s) column row (layers_clear d s bare)

@@ -23,6 +23,7 @@ use Rattle.tv_words.specs.Fields.{IsNumber, number_word}
 use Rattle.tv_words.specs.Lines.{lines_of, onto_first}
 use Rattle.tv_answers.specs.declared.progress.Progress.{Progress}
 use Rattle.tv_answers.specs.LogLines.{is_number}
+use Rattle.tv_laws.specs.Sheets.{HasNoSheets}
 use Rattle.tv_answers.specs.ReadLogs.{line_answered, lines_answered}
 use Rattle.tv_answers.proofs.LogReadLemmas.{AreLines, text_read}
 use Rattle.tv_answers.proofs.LogTextLemmas.{spaced_bytes}
@@ -209,11 +210,11 @@ module _ (d : Desc) (width : IsNumber (pos (natural d.width))) (height : IsNumbe
   abbrev session : Session
   session = record { desc = d; state = s }
 
-  pub shot_read : TextIsRead d p (shot_text session) p
-  shot_read =
+  pub shot_read : HasNoSheets s → TextIsRead d p (shot_text session) p
+  shot_read bare =
       text_append d p p p (line_of (codes "shot ") (decimal (natural d.width) ++ codes " " ++ decimal (natural d.height))) _
       (shot_line d p (natural d.width) (natural d.height) width height)
-      (rows_read d p (λ cell. encode_utf8 cell.ch) (natural d.width) (screen_cell session) (λ x y. character_clear (screen_cell session x y).ch (screen_clear d s x y)) (range_with_len 0 (natural d.height)))
+      (rows_read d p (λ cell. encode_utf8 cell.ch) (natural d.width) (screen_cell session) (λ x y. character_clear (screen_cell session x y).ch (screen_clear d s x y bare)) (range_with_len 0 (natural d.height)))
 
   pub colors_read : TextIsRead d p (colors_text session) p
   colors_read =

@@ -3,6 +3,8 @@ pub mod DraggingLemmas
 pub mod EventLemmas
 pub mod FitLemmas
 pub mod GivingLemmas
+pub mod LaidLemmas
+pub mod LeavingLemmas
 pub mod OfferLemmas
 pub mod RunningLemmas
 pub mod ScreenLemmas

@@ -6,6 +6,8 @@ pub mod Showing
 pub mod Freshness
 -- how a run begins
 pub mod Starting
+-- whether an event is left for another
+pub mod Leaving
 -- a session, and what it stands for
 pub mod Session
 -- where groups stand, and what they are made of

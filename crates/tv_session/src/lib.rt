@@ -13,6 +13,8 @@ mod events;
 mod fault;
 mod freshness;
 mod giving;
+mod laying;
+mod leaving;
 mod log;
 mod making;
 mod paint;

@@ -1,18 +1,20 @@
 //! A run of a checked description through its views.
 
-ghost use Rattle.std.specs.Prelude.{◌≡◌, option_copied, option_map};
+ghost use Rattle.std.specs.Prelude.{◌≡◌, [], IfSome, is_some, option_copied, option_map};
 ghost use Rattle.std.specs.Borrow.{sem};
 ghost use Rattle.std.specs.Io.BufRead.{Rests};
 ghost use Rattle.tv_cells.specs.Damage.{Holds};
+ghost use Rattle.tv_cells.specs.Rectangle.{IsRectNear};
 ghost use Rattle.tv_cells.specs.Repainting.{KeepsRest};
 ghost use Rattle.tv_machine.specs.Screen.Bodies.{whole_screen};
-ghost use Rattle.tv_machine.specs.Run.{Session as Standing, commanded, quiet, stepped};
+ghost use Rattle.tv_machine.specs.Run.{Session as Standing, commanded, quiet, stepped, with_sheet};
 ghost use Rattle.tv_machine.specs.Safe.{IsSafeSaved};
+ghost use Rattle.tv_machine.specs.Session.Left.{is_left};
 ghost use Rattle.tv_machine.specs.Session.Step.{takes_command};
 ghost use Rattle.tv_script.specs.Performed.{IsScreenOf};
 ghost use Rattle.tv_dialogs.specs.Handed.{HasPointGiven};
-ghost use Rattle.tv_dialogs.specs.Records.{next_record};
-ghost use Rattle.tv_session.specs.Session.{IsQuieted, StandsFor, handed_in, open_id_of};
+ghost use Rattle.tv_dialogs.specs.Records.{current_of, next_record};
+ghost use Rattle.tv_session.specs.Session.{IsQuieted, StandsFor, bounds_of, front_of, handed_in, open_id_of};
 
 use crate::log::Log;
 use crate::paint::{replace_damage, whole_screen};
@@ -81,6 +83,57 @@ impl<V: View> SessionOf<V> {
         self.run
             .repaint(&mut self.screen, desc, &self.line, &self.repainted);
         taken
+    }
+
+    /// Lays a sheet in the open window or dialog of an id, in the place of the one that lay there, or takes that away. It shows
+    /// in the interior, where it has cells that are painted, and goes with what it lies in. Nothing is done where nothing of
+    /// the id is open. The log stays, and the screen is painted again as after an event.
+    pub fn lay(&mut self, id: Id, sheet: Option<Screen>)
+        requires { (s : Standing) × StandsFor V.meaning self.old s }
+        ensures stands { (s : Standing) → StandsFor V.meaning self.old s → StandsFor V.meaning self.new (with_sheet s id sheet) }
+        ensures rest { KeepsRest self.new.repainted self.old.screen self.new.screen }
+        ensures within { (s : Standing) → StandsFor V.meaning self.old s → Holds (whole_screen s.desc) self.new.repainted }
+    {
+        let desc = self.checked.desc();
+        self.run.lay(desc, &self.line, id, sheet);
+        replace_damage(&mut self.repainted, &self.run.damage, whole_screen(desc));
+        self.run
+            .repaint(&mut self.screen, desc, &self.line, &self.repainted);
+    }
+
+    /// Returns the rectangle on the screen of the open window or dialog of an id, or `None` where nothing of the id is open.
+    pub fn bounds(&self, id: Id) -> Option<Rect>
+        ensures is { (s : Standing) → StandsFor V.meaning self.now s → result ≡ bounds_of s id }
+        ensures near { IfSome result IsRectNear }
+    {
+        self.run.bounds(self.checked.desc(), id)
+    }
+
+    /// Returns the id of what is in front: of the open dialog, or without one of the front window.
+    pub fn front(&self) -> Option<Id>
+        ensures { (s : Standing) → StandsFor V.meaning self.now s → result ≡ front_of s }
+    {
+        self.run.front(self.checked.desc())
+    }
+
+    /// Puts the values that the fields of the open dialog have now into an empty record, in description order, and returns
+    /// whether a dialog is open.
+    pub fn current(&self, values: &mut Record) -> bool
+        requires empty { values.old ≡ [] }
+        requires there { (s : Standing) × StandsFor V.meaning self.now s }
+        ensures { (s : Standing) → StandsFor V.meaning self.now s → (result ≡ is_some s.state.dialog) × (values.new ≡ current_of s.state.dialog) }
+    {
+        // A dialog of a checked description has no more fields than a record has room for.
+        let _sound = self.checked.desc();
+        self.run.dialogs.current(values)
+    }
+
+    /// Whether `step` would make nothing of the event, so that it is the program's: no dialog and no menu is open, nothing
+    /// holds the mouse, and neither the bar, the status line nor a window takes it.
+    pub fn leaves(&self, event: &Event) -> bool
+        ensures { (s : Standing) → StandsFor V.meaning self.now s → result ≡ is_left s.desc s.state event.now }
+    {
+        self.run.leaves(&self.line, event)
     }
 
     /// Returns the rectangles that the last event or command had painted again, in screen coordinates. They lie on the
@@ -170,6 +223,13 @@ impl<V: View> SessionOf<V> {
         ensures { (s : Standing) → StandsFor V.meaning self.now s → result.now ≡ s.desc }
     {
         self.checked.desc()
+    }
+
+    /// Returns the description with what was found when it was checked.
+    pub fn checked(&self) -> &Checked
+        ensures { (s : Standing) → StandsFor V.meaning self.now s → result.now ≡ s.desc }
+    {
+        &self.checked
     }
 }
 
