@@ -5,3 +5,5 @@ pub mod MemberLemmas
 pub mod BuildableLemmas
 -- that views as declared are refused by no session
 pub mod DeclaredLemmas
+-- Where panes stand
+mod PaneLemmas

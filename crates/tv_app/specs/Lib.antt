@@ -4,6 +4,10 @@ pub mod Running
 pub mod Opening
 -- what dialogs and fields have, by name
 pub mod Names
+-- what is open, and sheets, by name
+pub mod Sheets
+-- where panes stand in their dialog
+pub mod Panes
 -- when a record fits a dialog, and how it is handed in
 pub mod Setting
 -- what a control of any kind means

@@ -1,13 +1,15 @@
 //! A description at work in a program.
 
-ghost use Rattle.std.specs.Prelude.{◌≡◌, option_map};
+ghost use Rattle.std.specs.Prelude.{◌≡◌, [], is_some, option_map};
 ghost use Rattle.tv_app.specs.Names.{is_open_named};
 ghost use Rattle.tv_app.specs.Running.{Runs};
 ghost use Rattle.tv_cells.specs.Damage.{Holds};
 ghost use Rattle.tv_cells.specs.Repainting.{KeepsRest};
 ghost use Rattle.tv_dialogs.specs.Handed.{HasPointGiven};
+ghost use Rattle.tv_dialogs.specs.Records.{current_of};
 ghost use Rattle.tv_machine.specs.Run.{Session, commanded, quiet, stepped};
 ghost use Rattle.tv_machine.specs.Screen.Bodies.{whole_screen};
+ghost use Rattle.tv_machine.specs.Session.Left.{is_left};
 ghost use Rattle.tv_machine.specs.Session.Step.{takes_command};
 ghost use Rattle.tv_script.specs.Performed.{IsScreenOf};
 
@@ -15,7 +17,7 @@ use crate::control::Control;
 use crate::names::dialog_named;
 use tv_cells::{Rect, Screen};
 use tv_event::{Command, Event};
-use tv_model::{Desc, Id, LogLine};
+use tv_model::{Desc, Id, LogLine, Record};
 use tv_session::SessionOf;
 
 /// A run of a description through the toolkit's own controls, and its screen. `open` makes it.
@@ -52,6 +54,24 @@ impl App {
         ensures within { (s : Session) → Runs self.old s → Holds (whole_screen s.desc) self.new.session.repainted }
     {
         self.session.command(command)
+    }
+
+    /// Whether `step` would make nothing of the event, so that it is the program's: no dialog and no menu is open, nothing
+    /// holds the mouse, and neither the bar, the status line nor a window takes it. Moves and ups are the program's then.
+    pub fn leaves(&self, event: &Event) -> bool
+        ensures { (s : Session) → Runs self.now s → result ≡ is_left s.desc s.state event.now }
+    {
+        self.session.leaves(event)
+    }
+
+    /// Puts the values that the fields of the open dialog have now into an empty record, in description order, and returns
+    /// whether a dialog is open. An end saves such a record; `record` has what was saved.
+    pub fn current(&self, values: &mut Record) -> bool
+        requires empty { values.old ≡ [] }
+        requires there { (s : Session) × Runs self.now s }
+        ensures { (s : Session) → Runs self.now s → (result ≡ is_some s.state.dialog) × (values.new ≡ current_of s.state.dialog) }
+    {
+        self.session.current(values)
     }
 
     /// Returns the screen after the last event.

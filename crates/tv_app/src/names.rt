@@ -2,9 +2,10 @@
 
 ghost use Rattle.std.specs.Prelude.{◌≡◌, ◌<◌, IfSome, find, length, option_copied, option_map, position};
 ghost use Rattle.tv_app.specs.Names.{field_id, is_called};
+ghost use Rattle.tv_app.specs.Sheets.{named_id};
 ghost use Rattle.tv_model.specs.Description.Heads.{is_named};
 
-use tv_model::{Desc, Dialog, Id, Node};
+use tv_model::{Desc, Dialog, Id, Node, Window};
 use tv_words::is_same;
 
 fn is_named(dialog: &Dialog, name: &str) -> bool
@@ -13,7 +14,7 @@ fn is_named(dialog: &Dialog, name: &str) -> bool
     is_same(dialog.head().name.as_slice(), name.as_bytes())
 }
 
-fn is_called(view: &Node, name: &str) -> bool
+pub(crate) fn is_called(view: &Node, name: &str) -> bool
     ensures { result ≡ is_called name.now view.now }
 {
     match view.kind.name() {
@@ -40,6 +41,28 @@ pub(crate) fn dialog_named<'a>(desc: &'a Desc, name: &str) -> Option<&'a Dialog>
         .as_slice()
         .iter()
         .find(|dialog| is_named(dialog, name))
+}
+
+fn window_named<'a>(desc: &'a Desc, name: &str) -> Option<&'a Window>
+    ensures { option_copied result ≡ find (λ window. is_called name.now window.node) desc.now.windows }
+{
+    desc.windows
+        .as_slice()
+        .iter()
+        .find(|window| is_called(&window.node, name))
+}
+
+/// Finds the id of the first window of the name, or else of the first dialog.
+pub(crate) fn named_id(desc: &Desc, name: &str) -> Option<Id>
+    ensures { result ≡ named_id desc.now name.now }
+{
+    if let Some(window) = window_named(desc, name) {
+        return Some(window.node.id);
+    }
+    match dialog_named(desc, name) {
+        Some(dialog) => Some(dialog.node.id),
+        None => None,
+    }
 }
 
 fn view_named<'a>(views: &'a [Node], name: &str) -> Option<&'a Node>
