@@ -444,7 +444,7 @@ module _ {W : Type 0} {seen : W → Seen} (t : Session) {screen : Picture} (curs
   on-first : {column row : ℕ} → IsScreenPlace t column row → IsOn screen column row
   on-first on = record { across = omega (arith, on.across, is.width); down = omega (arith, on.down, is.height) }
 
-  begun-shows : {d e : Display} → Begun screen (cursor_on screen.width screen.height cursor) new d e → ShowsSession new.colours t d e
+  pub begun-shows : {d e : Display} → Begun screen (cursor_on screen.width screen.height cursor) new d e → ShowsSession new.colours t d e
   begun-shows {d} {e} b = record {
     each = λ column row on. b.shows.each column row (on-first on) ∙ ap (tile_of new.colours) (is.cells.each column row (on-first on));
     cursor = cursor-shown t screen is cursor finds e b.points;
@@ -459,7 +459,7 @@ module _ {W : Type 0} {seen : W → Seen} (t : Session) {screen : Picture} (curs
     lost = b.lost;
   }
 
-  begun-taken : HasTaken t new
+  pub begun-taken : HasTaken t new
   begun-taken = record {
     known = p.known;
     size = record { width = p.size.width ∙ size.width; height = p.size.height ∙ size.height };

@@ -10,7 +10,7 @@ use tv_cells::{Cell, Point, Rect, Screen};
 const CURSOR: u8 = 0x4f;
 
 /// Finds the cursor of the focused input, where it shows on the screen. It is looked for in these rectangles first.
-pub(crate) fn find_cursor(screen: &Screen, first: &[Rect]) -> Option<Point>
+pub fn find_cursor(screen: &Screen, first: &[Rect]) -> Option<Point>
     ensures { FindsCursor screen.now result }
 {
     match find_in_rects(screen, first) {

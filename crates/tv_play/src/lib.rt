@@ -16,6 +16,7 @@ mod refusal;
 mod session;
 mod show;
 
+pub use cursor::find_cursor;
 pub use edge::{brought, heard_can_be_said};
 pub use ends::{Step, nothing_can_happen, step_of};
 pub use live::Live;
