@@ -1,0 +1,5 @@
+pub mod ProgramLemmas
+pub mod ShownLemmas
+pub mod CourseLemmas
+pub mod HostLemmas
+pub mod LivingLemmas
