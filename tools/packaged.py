@@ -14,7 +14,7 @@ top = pathlib.Path(__file__).resolve().parent.parent
 
 PROGRAM = top / "crates/tvdlg/out/tvdlg"
 SCRIPTS = ("tvplay", "tvask")
-DOCUMENTS = ("docs/PROGRAM.md", "docs/LANGUAGE.md", "docs/FAULTS.md", "docs/GLOSSARY.md", "docs/LIBRARY.md", "CHANGELOG.md")
+DOCUMENTS = ("docs/PROGRAM.md", "docs/LANGUAGE.md", "docs/FAULTS.md", "docs/WARNINGS.md", "docs/LIBRARY.md", "CHANGELOG.md")
 SECTION = ".tvdlg.build"
 
 NO_LICENCE = """\
