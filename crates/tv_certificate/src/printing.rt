@@ -28,8 +28,8 @@ fn letter_word(alloc: Global, letter: char) -> Result<Word, AllocError>
 }
 
 // Adds the number of the item, where there is one.
-fn with_item(line: Line, item: Option<i32>) -> Result<Line, AllocError>
-    ensures { IfOk result (λ words. words ≡ line ++ item_words item) }
+fn with_item(line: Line<'_>, item: Option<i32>) -> Result<Line<'_>, AllocError>
+    ensures { IfOk result (λ words. words ≡ line.entry ++ item_words item) }
 {
     match item {
         Some(item) => line.number(item),
@@ -38,8 +38,8 @@ fn with_item(line: Line, item: Option<i32>) -> Result<Line, AllocError>
 }
 
 // Adds the words of the item of radio buttons, where there is one.
-fn with_when(line: Line, shown: &Option<When>) -> Result<Line, AllocError>
-    ensures { IfOk result (λ words. words ≡ line ++ when_words shown.now) }
+fn with_when<'a>(line: Line<'a>, shown: &'a Option<When>) -> Result<Line<'a>, AllocError>
+    ensures { IfOk result (λ words. words ≡ line.entry ++ when_words shown.now) }
 {
     match shown {
         Some(shown) => line
@@ -50,7 +50,7 @@ fn with_when(line: Line, shown: &Option<When>) -> Result<Line, AllocError>
     }
 }
 
-fn key_line(alloc: Global, line: &KeyLine) -> Result<Line, AllocError>
+fn key_line(alloc: Global, line: &KeyLine) -> Result<Line<'_>, AllocError>
     ensures { IfOk result (λ words. words ≡ key_words line.now) }
 {
     let words = Line::new(alloc)

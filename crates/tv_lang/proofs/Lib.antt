@@ -8,3 +8,4 @@ pub mod DescriptionTextLemmas
 pub mod ReadingLemmas
 pub mod PrintLemmas
 pub mod PrintTextLemmas
+pub mod LineLemmas

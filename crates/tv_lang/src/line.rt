@@ -7,17 +7,18 @@ ghost use Rattle.tv_declarations.specs.Spelling.Terms.{word_if};
 
 use std::alloc::{AllocError, Global};
 use std::marker::Model;
-use tv_valid::Chars;
-use tv_words::{Word, Words, with_line};
+use tv_valid::{Chars, Sequence};
+use tv_words::{Word, WrittenWord, with_line};
 
-/// A line that is put together word by word. Contracts see the list of its words.
+/// A line that is put together word by word, and lends the names and texts of what it declares. Contracts see the list of its
+/// words.
 #[derive(Drop)]
-pub struct Line {
+pub struct Line<'a> {
     pub(crate) alloc: Global,
-    words: Words,
+    words: Sequence<WrittenWord<'a>>,
 }
 
-impl Model for Line {
+impl<'a> Model for Line<'a> {
     ghost use Rattle.std.specs.Prelude.{List};
     ghost use Rattle.tv_words.specs.declared.word.Word.{Word};
 
@@ -26,67 +27,78 @@ impl Model for Line {
     ghost view = { λ l. l.words };
 }
 
-impl Line {
+impl<'a> Line<'a> {
     /// Makes a line without words. Takes no memory.
-    pub fn new(alloc: Global) -> Line
+    pub fn new(alloc: Global) -> Line<'a>
         ensures { result ≡ [] }
     {
         Line {
             alloc,
-            words: Words::new(alloc),
+            words: Sequence::new(alloc),
         }
     }
 
-    /// Adds a word to the line.
-    pub fn word(mut self, word: Word) -> Result<Line, AllocError>
-        ensures { IfOk result (λ line. line ≡ self ++ word ∷ []) }
+    fn written(mut self, word: WrittenWord<'a>) -> Result<Line<'a>, AllocError>
+        ensures { IfOk result (λ line. line ≡ self.entry ++ word.entry ∷ []) }
     {
         self.words.push(word)?;
         Ok(self)
     }
 
-    /// Adds a bare word of these ASCII characters.
-    pub fn keyword(self, text: &[u8]) -> Result<Line, AllocError>
-        ensures { IfOk result (λ line. line ≡ self ++ Word.Bare text.now ∷ []) }
+    /// Adds a word to the line.
+    pub fn word(self, word: Word) -> Result<Line<'a>, AllocError>
+        ensures { IfOk result (λ line. line ≡ self.entry ++ word ∷ []) }
     {
-        let word = Word::Bare(ascii(self.alloc, text)?);
-        self.word(word)
+        self.written(WrittenWord::own(word))
+    }
+
+    /// Adds a bare word of these ASCII characters.
+    pub fn keyword(self, text: &'a [u8]) -> Result<Line<'a>, AllocError>
+        ensures { IfOk result (λ line. line ≡ self.entry ++ Word.Bare text.now ∷ []) }
+    {
+        self.written(WrittenWord::ascii(text))
     }
 
     /// Adds the keyword, where it is wanted.
-    pub fn keyword_if(self, wanted: bool, text: &[u8]) -> Result<Line, AllocError>
-        ensures { IfOk result (λ line. line ≡ self ++ word_if wanted text.now) }
+    pub fn keyword_if(self, wanted: bool, text: &'a [u8]) -> Result<Line<'a>, AllocError>
+        ensures { IfOk result (λ line. line ≡ self.entry ++ word_if wanted text.now) }
     {
         if wanted { self.keyword(text) } else { Ok(self) }
     }
 
     /// Adds a name, or another bare word of these characters.
-    pub fn name(self, name: &Chars) -> Result<Line, AllocError>
-        ensures { IfOk result (λ line. line ≡ self ++ Word.Bare name.now ∷ []) }
+    pub fn name(self, name: &'a Chars) -> Result<Line<'a>, AllocError>
+        ensures { IfOk result (λ line. line ≡ self.entry ++ Word.Bare name.now ∷ []) }
     {
-        let word = Word::Bare(Chars::from_slice(self.alloc, name.as_slice())?);
-        self.word(word)
+        self.written(WrittenWord::bare(name.as_slice()))
     }
 
     /// Adds a quoted text.
-    pub fn text(self, text: &Chars) -> Result<Line, AllocError>
-        ensures { IfOk result (λ line. line ≡ self ++ Word.Quoted text.now ∷ []) }
+    pub fn text(self, text: &'a Chars) -> Result<Line<'a>, AllocError>
+        ensures { IfOk result (λ line. line ≡ self.entry ++ Word.Quoted text.now ∷ []) }
     {
-        let word = Word::Quoted(Chars::from_slice(self.alloc, text.as_slice())?);
-        self.word(word)
+        self.written(WrittenWord::quoted(text.as_slice()))
     }
 
     /// Adds a number in decimal.
-    pub fn number(self, number: i32) -> Result<Line, AllocError>
-        ensures { IfOk result (λ line. line ≡ self ++ number_word number ∷ []) }
+    pub fn number(self, number: i32) -> Result<Line<'a>, AllocError>
+        ensures { IfOk result (λ line. line ≡ self.entry ++ number_word number ∷ []) }
     {
         let digits = number.to_string(self.alloc)?;
-        self.keyword(digits.as_bytes())
+        self.bare(digits.as_bytes())
+    }
+
+    // Adds a bare word of these ASCII characters, which the line holds.
+    pub(crate) fn bare(self, text: &[u8]) -> Result<Line<'a>, AllocError>
+        ensures { IfOk result (λ line. line ≡ self.entry ++ Word.Bare text.now ∷ []) }
+    {
+        let word = Word::Bare(ascii(self.alloc, text)?);
+        self.word(word)
     }
 
     /// Adds these numbers in decimal.
-    pub fn numbers(mut self, numbers: &[i32]) -> Result<Line, AllocError>
-        ensures { IfOk result (λ line. line ≡ self ++ map number_word numbers.now) }
+    pub fn numbers(mut self, numbers: &[i32]) -> Result<Line<'a>, AllocError>
+        ensures { IfOk result (λ line. line ≡ self.entry ++ map number_word numbers.now) }
     {
         for number in numbers {
             self = self.number(*number)?;

@@ -13,7 +13,7 @@ use tv_valid::{Chars, DomainSpec};
 use tv_words::Word;
 
 /// Makes the line that declares the node.
-pub fn node_line(alloc: Global, node: &Node) -> Result<Line, AllocError>
+pub fn node_line(alloc: Global, node: &Node) -> Result<Line<'_>, AllocError>
     ensures { IfOk result (λ line. line ≡ node_words node.now) }
 {
     match &node.kind {
@@ -50,7 +50,12 @@ pub fn node_line(alloc: Global, node: &Node) -> Result<Line, AllocError>
     }
 }
 
-fn named(alloc: Global, keyword: &[u8], name: &Chars, node: &Node) -> Result<Line, AllocError>
+fn named<'a>(
+    alloc: Global,
+    keyword: &'a [u8],
+    name: &'a Chars,
+    node: &Node,
+) -> Result<Line<'a>, AllocError>
     ensures { IfOk result (λ line. line
         ≡ Word.Bare keyword.now ∷ Word.Bare name.now ∷ number_word node.now.x ∷ number_word node.now.y
         ∷ number_word node.now.w ∷ []) }
@@ -58,24 +63,24 @@ fn named(alloc: Global, keyword: &[u8], name: &Chars, node: &Node) -> Result<Lin
     Line::new(alloc).keyword(keyword)?.name(name)?.place(node)
 }
 
-fn unnamed(alloc: Global, keyword: &[u8], node: &Node) -> Result<Line, AllocError>
+fn unnamed<'a>(alloc: Global, keyword: &'a [u8], node: &Node) -> Result<Line<'a>, AllocError>
     ensures { IfOk result (λ line. line
         ≡ Word.Bare keyword.now ∷ number_word node.now.x ∷ number_word node.now.y ∷ number_word node.now.w ∷ []) }
 {
     Line::new(alloc).keyword(keyword)?.place(node)
 }
 
-impl Line {
+impl<'a> Line<'a> {
     // Adds the node's column, row and width.
-    fn place(self, node: &Node) -> Result<Line, AllocError>
-        ensures { IfOk result (λ line. line ≡ self ++ number_word node.now.x ∷ number_word node.now.y ∷ number_word node.now.w ∷ []) }
+    fn place(self, node: &Node) -> Result<Line<'a>, AllocError>
+        ensures { IfOk result (λ line. line ≡ self.entry ++ number_word node.now.x ∷ number_word node.now.y ∷ number_word node.now.w ∷ []) }
     {
         self.numbers(&[node.x, node.y, node.w])
     }
 
-    fn dialog(self, head: &DialogHead) -> Result<Line, AllocError>
+    fn dialog(self, head: &'a DialogHead) -> Result<Line<'a>, AllocError>
         ensures { IfOk result (λ line. line
-            ≡ self ++ Word.Quoted head.now.title ∷ (opens_words head.now.opens ++ (Word.Bare (codes "ends")
+            ≡ self.entry ++ Word.Quoted head.now.title ∷ (opens_words head.now.opens ++ (Word.Bare (codes "ends")
             ∷ ends_words head.now.ends))) }
     {
         self.text(&head.title)?
@@ -84,8 +89,8 @@ impl Line {
             .ends(head.ends)
     }
 
-    fn opens(self, opens: Option<i32>) -> Result<Line, AllocError>
-        ensures { IfOk result (λ line. line ≡ self ++ opens_words opens) }
+    fn opens(self, opens: Option<i32>) -> Result<Line<'a>, AllocError>
+        ensures { IfOk result (λ line. line ≡ self.entry ++ opens_words opens) }
     {
         match opens {
             None => Ok(self),
@@ -93,9 +98,9 @@ impl Line {
         }
     }
 
-    fn button(self, button: &Button) -> Result<Line, AllocError>
+    fn button(self, button: &'a Button) -> Result<Line<'a>, AllocError>
         ensures { IfOk result (λ line. line
-            ≡ self ++ marked_word button.now.text ∷ command_word button.now.command
+            ≡ self.entry ++ marked_word button.now.text ∷ command_word button.now.command
             ∷ (word_if button.now.is_default (codes "default") ++ word_if button.now.grabs (codes "grab"))) }
     {
         self.marked(&button.text)?
@@ -104,9 +109,9 @@ impl Line {
             .keyword_if(button.grabs, keywords::GRAB)
     }
 
-    fn input(self, input: &Input) -> Result<Line, AllocError>
+    fn input(self, input: &'a Input) -> Result<Line<'a>, AllocError>
         ensures { IfOk result (λ line. line
-            ≡ self ++ (domain_words input.now.spec.domain ++ (Word.Quoted input.now.start
+            ≡ self.entry ++ (domain_words input.now.spec.domain ++ (Word.Quoted input.now.start
             ∷ (word_if input.now.validates (codes "validate") ++ (word_if input.now.spec.optional (codes "optional")
             ++ word_if input.now.spec.fill (codes "fill")))))) }
     {
@@ -115,9 +120,14 @@ impl Line {
             .input_flags(input.validates, input.spec.optional, input.spec.fill)
     }
 
-    fn input_flags(self, validates: bool, optional: bool, fill: bool) -> Result<Line, AllocError>
+    fn input_flags(
+        self,
+        validates: bool,
+        optional: bool,
+        fill: bool,
+    ) -> Result<Line<'a>, AllocError>
         ensures { IfOk result (λ line. line
-            ≡ self ++ (word_if validates (codes "validate") ++ (word_if optional (codes "optional")
+            ≡ self.entry ++ (word_if validates (codes "validate") ++ (word_if optional (codes "optional")
             ++ word_if fill (codes "fill")))) }
     {
         self.keyword_if(validates, keywords::VALIDATE)?
@@ -125,8 +135,8 @@ impl Line {
             .keyword_if(fill, keywords::FILL)
     }
 
-    fn domain(self, domain: &DomainSpec) -> Result<Line, AllocError>
-        ensures { IfOk result (λ line. line ≡ self ++ domain_words domain.now) }
+    fn domain(self, domain: &'a DomainSpec) -> Result<Line<'a>, AllocError>
+        ensures { IfOk result (λ line. line ≡ self.entry ++ domain_words domain.now) }
     {
         match domain {
             DomainSpec::Any => self.keyword(keywords::ANY),
@@ -139,15 +149,15 @@ impl Line {
         }
     }
 
-    fn check_boxes(self, boxes: &CheckBoxes) -> Result<Line, AllocError>
-        ensures { IfOk result (λ line. line ≡ self ++ (map marked_word boxes.now.items ++ marks_words boxes.now.start)) }
+    fn check_boxes(self, boxes: &'a CheckBoxes) -> Result<Line<'a>, AllocError>
+        ensures { IfOk result (λ line. line ≡ self.entry ++ (map marked_word boxes.now.items ++ marks_words boxes.now.start)) }
     {
         self.marked_items(boxes.items.as_slice())?
             .marks(boxes.start.as_slice())
     }
 
-    fn marks(self, start: &[i32]) -> Result<Line, AllocError>
-        ensures { IfOk result (λ line. line ≡ self ++ marks_words start.now) }
+    fn marks(self, start: &[i32]) -> Result<Line<'a>, AllocError>
+        ensures { IfOk result (λ line. line ≡ self.entry ++ marks_words start.now) }
     {
         if start.is_empty() {
             Ok(self)
@@ -156,24 +166,24 @@ impl Line {
         }
     }
 
-    fn radio_buttons(self, radios: &RadioButtons) -> Result<Line, AllocError>
+    fn radio_buttons(self, radios: &'a RadioButtons) -> Result<Line<'a>, AllocError>
         ensures { IfOk result (λ line. line
-            ≡ self ++ (map marked_word radios.now.items ++ Word.Bare (codes "start")
+            ≡ self.entry ++ (map marked_word radios.now.items ++ Word.Bare (codes "start")
             ∷ number_word radios.now.start ∷ [])) }
     {
         self.marked_items(radios.items.as_slice())?
             .start(radios.start)
     }
 
-    fn list(self, list: &ListBox) -> Result<Line, AllocError>
+    fn list(self, list: &'a ListBox) -> Result<Line<'a>, AllocError>
         ensures { IfOk result (λ line. line
-            ≡ self ++ (map text_word list.now.items ++ Word.Bare (codes "start") ∷ number_word list.now.start ∷ [])) }
+            ≡ self.entry ++ (map text_word list.now.items ++ Word.Bare (codes "start") ∷ number_word list.now.start ∷ [])) }
     {
         self.texts(list.items.as_slice())?.start(list.start)
     }
 
-    fn texts(mut self, items: &[Chars]) -> Result<Line, AllocError>
-        ensures { IfOk result (λ line. line ≡ self ++ map text_word items.now) }
+    fn texts(mut self, items: &'a [Chars]) -> Result<Line<'a>, AllocError>
+        ensures { IfOk result (λ line. line ≡ self.entry ++ map text_word items.now) }
     {
         for item in items {
             self = self.text(item)?;
@@ -181,8 +191,8 @@ impl Line {
         Ok(self)
     }
 
-    fn start(self, item: i32) -> Result<Line, AllocError>
-        ensures { IfOk result (λ line. line ≡ self ++ Word.Bare (codes "start") ∷ number_word item ∷ []) }
+    fn start(self, item: i32) -> Result<Line<'a>, AllocError>
+        ensures { IfOk result (λ line. line ≡ self.entry ++ Word.Bare (codes "start") ∷ number_word item ∷ []) }
     {
         self.keyword(keywords::START)?.number(item)
     }

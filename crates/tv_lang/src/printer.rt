@@ -52,7 +52,7 @@ impl Printer {
     }
 
     /// Adds a line to the text.
-    pub fn line(self, line: &Line) -> Result<Printer, AllocError>
+    pub fn line(self, line: &Line<'_>) -> Result<Printer, AllocError>
         ensures { IfOk result (λ printer. printer ≡ self ++ canonical_text (line.now ∷ [])) }
     {
         let Printer { alloc, text } = self;

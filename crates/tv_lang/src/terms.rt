@@ -1,6 +1,6 @@
 //! The words of commands, keys and marked texts.
 
-ghost use Rattle.std.specs.Prelude.{◌≡◌, [], ◌∷◌, ◌++◌, ◌+◌, drop, map, slice_index, take, IfOk};
+ghost use Rattle.std.specs.Prelude.{◌≡◌, [], ◌∷◌, ◌++◌, ◌+◌, drop, map, slice_index, take, IfOk, Some};
 ghost use Rattle.tv_declarations.specs.Spelling.Terms.{command_word, ends_words, marked_word, with_mark};
 ghost use Rattle.tv_declarations.specs.Spelling.Keys.{key_word};
 
@@ -12,10 +12,10 @@ use tv_model::{CommandSpec, Ends, MarkedText};
 use tv_valid::Chars;
 use tv_words::Word;
 
-impl Line {
+impl<'a> Line<'a> {
     /// Adds the word of a command.
-    pub(crate) fn command(self, command: CommandSpec) -> Result<Line, AllocError>
-        ensures { IfOk result (λ line. line ≡ self ++ command_word command ∷ []) }
+    pub(crate) fn command(self, command: CommandSpec) -> Result<Line<'a>, AllocError>
+        ensures { IfOk result (λ line. line ≡ self.entry ++ command_word command ∷ []) }
     {
         match command {
             CommandSpec::Number(number) => self.number(number),
@@ -24,8 +24,8 @@ impl Line {
     }
 
     /// Adds the commands by which a dialog may end.
-    pub(crate) fn ends(self, ends: Ends) -> Result<Line, AllocError>
-        ensures { IfOk result (λ line. line ≡ self ++ ends_words ends) }
+    pub(crate) fn ends(self, ends: Ends) -> Result<Line<'a>, AllocError>
+        ensures { IfOk result (λ line. line ≡ self.entry ++ ends_words ends) }
     {
         self.keyword_if(ends.ok, command_name(CommandSpec::Ok))?
             .keyword_if(ends.cancel, command_name(CommandSpec::Cancel))?
@@ -34,8 +34,8 @@ impl Line {
     }
 
     /// Adds the name of a key.
-    pub(crate) fn key(self, key: Key) -> Result<Line, AllocError>
-        ensures { IfOk result (λ line. line ≡ self ++ key_word key ∷ []) }
+    pub(crate) fn key(self, key: Key) -> Result<Line<'a>, AllocError>
+        ensures { IfOk result (λ line. line ≡ self.entry ++ key_word key ∷ []) }
     {
         match key {
             Key::Ctrl(letter) => self.key_with(b"Ctrl-", letter),
@@ -46,32 +46,41 @@ impl Line {
         }
     }
 
-    fn key_with(self, prefix: &[u8], ch: char) -> Result<Line, AllocError>
-        ensures { IfOk result (λ line. line ≡ self ++ Word.Bare (prefix.now ++ ch ∷ []) ∷ []) }
+    fn key_with(self, prefix: &[u8], ch: char) -> Result<Line<'a>, AllocError>
+        ensures { IfOk result (λ line. line ≡ self.entry ++ Word.Bare (prefix.now ++ ch ∷ []) ∷ []) }
     {
         let mut name = ascii(self.alloc, prefix)?;
         name.push(ch)?;
         self.word(Word::Bare(name))
     }
 
-    fn function_key(self, number: u8) -> Result<Line, AllocError>
-        ensures { IfOk result (λ line. line ≡ self ++ key_word (Key.Function number) ∷ []) }
+    fn function_key(self, number: u8) -> Result<Line<'a>, AllocError>
+        ensures { IfOk result (λ line. line ≡ self.entry ++ key_word (Key.Function number) ∷ []) }
     {
         let name = format!(in self.alloc; "F{number}")?;
-        self.keyword(name.as_bytes())
+        self.bare(name.as_bytes())
     }
 
     /// Adds a quoted text that may have a mark.
-    pub(crate) fn marked(self, marked: &MarkedText) -> Result<Line, AllocError>
-        ensures { IfOk result (λ line. line ≡ self ++ marked_word marked.now ∷ []) }
+    pub(crate) fn marked(self, marked: &'a MarkedText) -> Result<Line<'a>, AllocError>
+        ensures { IfOk result (λ line. line ≡ self.entry ++ marked_word marked.now ∷ []) }
     {
-        let text = with_mark(self.alloc, marked.text.as_slice(), marked.mark)?;
+        match marked.mark {
+            None => self.text(&marked.text),
+            Some(place) => self.marked_at(marked.text.as_slice(), place),
+        }
+    }
+
+    fn marked_at(self, text: &[char], place: usize) -> Result<Line<'a>, AllocError>
+        ensures { IfOk result (λ line. line ≡ self.entry ++ Word.Quoted (with_mark (Some place) text.now) ∷ []) }
+    {
+        let text = with_mark(self.alloc, text, place)?;
         self.word(Word::Quoted(text))
     }
 
     /// Adds these marked texts.
-    pub(crate) fn marked_items(mut self, items: &[MarkedText]) -> Result<Line, AllocError>
-        ensures { IfOk result (λ line. line ≡ self ++ map marked_word items.now) }
+    pub(crate) fn marked_items(mut self, items: &'a [MarkedText]) -> Result<Line<'a>, AllocError>
+        ensures { IfOk result (λ line. line ≡ self.entry ++ map marked_word items.now) }
     {
         for item in items {
             self = self.marked(item)?;
@@ -80,17 +89,8 @@ impl Line {
     }
 }
 
-fn with_mark(alloc: Global, text: &[char], mark: Option<usize>) -> Result<Chars, AllocError>
-    ensures { IfOk result (λ marked. marked ≡ with_mark mark text.now) }
-{
-    match mark {
-        None => Chars::from_slice(alloc, text),
-        Some(place) => with_mark_at(alloc, text, place),
-    }
-}
-
-fn with_mark_at(alloc: Global, text: &[char], place: usize) -> Result<Chars, AllocError>
-    ensures { IfOk result (λ marked. marked ≡ take place text.now ++ (126 ∷ slice_index text.now place ∷ 126 ∷ drop (place + 1) text.now)) }
+fn with_mark(alloc: Global, text: &[char], place: usize) -> Result<Chars, AllocError>
+    ensures { IfOk result (λ marked. marked ≡ with_mark (Some place) text.now) }
 {
     let (before, letter, after) = around(text, place);
     let mut chars = Vec::from_slice(alloc, before)?;

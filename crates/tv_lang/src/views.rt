@@ -114,10 +114,10 @@ impl Printer {
     }
 }
 
-impl Line {
+impl<'a> Line<'a> {
     // Adds what a rule does.
-    fn effect(self, effect: &Effect) -> Result<Line, AllocError>
-        ensures { IfOk result (λ line. line ≡ self ++ effect_words effect.now []) }
+    fn effect(self, effect: &'a Effect) -> Result<Line<'a>, AllocError>
+        ensures { IfOk result (λ line. line ≡ self.entry ++ effect_words effect.now []) }
     {
         match effect {
             Effect::Show(name) => self.keyword(keywords::SHOW)?.name(name),

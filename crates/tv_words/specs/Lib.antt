@@ -9,4 +9,5 @@ pub mod Fields
 pub mod Texts
 pub mod TokenTexts
 pub mod Tokens
+pub mod WrittenWords
 pub mod Reading

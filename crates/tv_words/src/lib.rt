@@ -8,6 +8,7 @@ mod scan;
 mod token;
 mod tokens;
 mod word;
+mod written;
 
 pub use decimal::number;
 pub use line_text::with_line;
@@ -16,3 +17,4 @@ pub use scan::words_of;
 pub use token::{BareText, QuotedChars, QuotedText, Token};
 pub use tokens::{Tokens, tokens_of};
 pub use word::{Word, Words, is_same};
+pub use written::WrittenWord;
