@@ -159,6 +159,18 @@ def put_library(files):
     files.put("lib/libtvd.so", f"INPUT({linked.SONAME})\n")
 
 
+def document(name):
+    """A document for a package: its links lead to what is packed, and of all others only the words stay."""
+    def packed_link(found):
+        words, target, part = found[1], found[2], found[3] or ""
+        path = os.path.normpath(pathlib.Path(name).parent / target)
+        if path in DOCUMENTS:
+            return f"[{words}]({pathlib.Path(path).name}{part})"
+        return f"[{words}]({path}{part})" if path.startswith("examples/") else words
+    text = (top / name).read_text(encoding="utf-8")
+    return re.sub(r"\[([^\]`]+)\]\(([^)#\s]+)(#[^)\s]*)?\)", packed_link, text)
+
+
 def packed(program, gate=None):
     """All files of a built program, and of the library."""
     files, version, build = Packed(), version_of(program), build_text(gate)
@@ -171,7 +183,7 @@ def packed(program, gate=None):
     files.put("share/man/man1/tvask.1", manual("tvask", version, "stand in for dialog(1)", [("DESCRIPTION", head_of("tvask"))]))
     files.put("share/bash-completion/completions/tvdlg", completion(program))
     for name in DOCUMENTS:
-        files.put(f"share/doc/tvdlg/{pathlib.Path(name).name}", (top / name).read_bytes())
+        files.put(f"share/doc/tvdlg/{pathlib.Path(name).name}", document(name))
     for path in sorted((top / "examples").iterdir()):
         files.put(f"share/doc/tvdlg/examples/{path.name}", path.read_bytes())
     put_library(files)
