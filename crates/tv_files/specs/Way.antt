@@ -23,7 +23,8 @@ use Rattle.tv_program.specs.declared.trouble.Trouble.TheVariants.{NoMemory, Writ
 use Rattle.tv_reach.specs.declared.answer.Answer.{Answer}
 use Rattle.tv_reach.specs.declared.answer.Answer.TheVariants as answers
 use Rattle.tv_reach.specs.declared.goal.Goal.TheVariants.{Ends}
-use Rattle.tv_reach.specs.Goals.{IsAnswer, Reaches}
+use Rattle.tv_reach.specs.Answers.{IsAnswer}
+use Rattle.tv_reach.specs.Goals.{Reaches}
 use Rattle.tv_ways.specs.Listing.{way_text}
 use Rattle.tv_ways.specs.Wording.{script_text}
 
@@ -70,8 +71,9 @@ pub data EndsWay (file : List ℕ) (d : Desc) (dialog : List ℕ) (c : Command) 
   undeclared : (place : ℕ) (there : Dialog) → position (is_named dialog) d.dialogs ≡ Some place
       → slice_get d.dialogs place ≡ Some there → is_end (dialog_head there).ends c.0 ≡ false → new ≡ old → how ≡ Whole
       → end ≡ wayless file (no_end dialog c) → EndsWay file d dialog c old new how end
-  declared : (place : ℕ) → position (is_named dialog) d.dialogs ≡ Some place → EndsAt file d place c old new how end
-      → EndsWay file d dialog c old new how end
+  declared : (place : ℕ) (there : Dialog) → position (is_named dialog) d.dialogs ≡ Some place
+      → slice_get d.dialogs place ≡ Some there → is_end (dialog_head there).ends c.0 ≡ true
+      → EndsAt file d place c old new how end → EndsWay file d dialog c old new how end
   memory : new ≡ old → how ≡ Whole → end ≡ faulted NoMemory file → EndsWay file d dialog c old new how end
 
 -- the faults of the text are told as by `explain`; where it has none, the way is looked for

@@ -1,4 +1,4 @@
--- What a user may want of a dialog, which events reach it, and what an answer to that promises.
+-- What a user may want of a dialog, and which events reach it.
 use Rattle.std.specs.Prelude.{◌≡◌, ℕ, List, true, Contains, slice_get, Some}
 use Rattle.tv_event.specs.declared.event.Command.{Command}
 use Rattle.tv_event.specs.declared.event.Event.{Event}
@@ -11,8 +11,6 @@ use Rattle.tv_machine.specs.Leaves.{PlacedNode}
 use Rattle.tv_machine.specs.Dialog.Modal.{leaf_at}
 use Rattle.tv_machine.specs.Dialog.Rules.{is_visible}
 use Rattle.tv_laws.specs.Runs.{state_after}
-use Rattle.tv_reach.specs.declared.answer.Answer.{Answer}
-use Rattle.tv_reach.specs.declared.answer.Answer.TheVariants as answers
 use Rattle.tv_reach.specs.declared.goal.Goal.{Goal}
 use Rattle.tv_reach.specs.declared.goal.Goal.TheVariants as goals
 
@@ -60,9 +58,3 @@ Reaches d place goal events = IsAt d place goal (state_after d events)
 -- no events reach it
 abbrev pub IsNeverReached : Desc → ℕ → Goal → Type 0
 IsNeverReached d place goal = (events : List Event) → Reaches d place goal events → ⊥
-
--- a way reaches the goal, and what is told to be never reached is reached by no events
-abbrev pub IsAnswer : Desc → ℕ → Goal → Answer → Type 0
-IsAnswer d place goal (answers.Way events) = Reaches d place goal events
-IsAnswer d place goal (answers.Never why) = IsNeverReached d place goal
-IsAnswer d place goal answers.Unknown = Unit {0}

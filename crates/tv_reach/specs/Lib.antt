@@ -12,5 +12,7 @@ pub mod Givers
 pub mod Runs
 -- what no event reaches
 pub mod Never
+-- what an answer promises
+pub mod Answers
 -- what the code looks at
 pub mod Found

@@ -10,7 +10,7 @@ use Rattle.tv_model.specs.Description.Heads.{dialog_head}
 use Rattle.tv_model.specs.Description.Nodes.{is_control}
 use Rattle.tv_reach.specs.declared.goal.Goal.{Goal}
 use Rattle.tv_reach.specs.declared.goal.Goal.TheVariants as goals
-use Rattle.tv_reach.specs.Goals.{IsAnswer}
+use Rattle.tv_reach.specs.Answers.{IsAnswer}
 use Rattle.tv_ways.specs.declared.asking.DialogWays.{DialogWays}
 use Rattle.tv_ways.specs.declared.asking.Way.{Way}
 

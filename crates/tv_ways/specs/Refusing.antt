@@ -9,7 +9,7 @@ use Rattle.tv_model.specs.declared.node.Id.{Id}
 use Rattle.tv_reach.specs.Goals.{IsOpenAt}
 
 -- the dialog at the place is open, the input has just refused, and another control has the focus: an input that refuses an
--- end gets it, unless it is hidden
+-- end gets the focus, unless it is hidden
 pub record IsRefusedAt (d : Desc) (place : ℕ) (i : Id) (s : State) : Type 0 where
   pub at : IsOpenAt d place s
   pub logged : Contains s.log (lines.Invalid i)

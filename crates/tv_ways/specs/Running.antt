@@ -11,12 +11,7 @@ use Rattle.tv_model.specs.Description.Nodes.{node_of}
 use Rattle.tv_machine.specs.Run.{Session}
 use Rattle.tv_machine.specs.State.{State}
 use Rattle.tv_laws.specs.Runs.{state_after}
-use Rattle.tv_reach.specs.declared.answer.Reason.{Reason}
-use Rattle.tv_reach.specs.declared.goal.Goal.{Goal}
-use Rattle.tv_reach.specs.declared.mask.Mask.{Mask}
 use Rattle.tv_reach.specs.Goals.{IsFocusedAt, IsShownAt}
-use Rattle.tv_reach.specs.Masks.{IsClosed}
-use Rattle.tv_reach.specs.Never.{IsReason}
 
 -- the run after these events
 abbrev pub ran : Desc → List Event → Session
@@ -36,7 +31,3 @@ IsOnlyIn d place i =
 -- the dialog at the place is open, and its control of the id has the focus and is visible
 abbrev pub IsReadAt : Desc → ℕ → Id → State → Type 0
 IsReadAt d place i s = IsFocusedAt d place i s × IsShownAt d place i s
-
--- a closed list of masks shows why no events reach the goal
-abbrev pub IsNever : Desc → Dialog → Goal → Reason → Type 0
-IsNever d dialog goal why = (masks : List Mask) × IsClosed dialog masks × IsReason d dialog masks goal why

@@ -5,9 +5,9 @@ ghost use Rattle.tv_app.specs.Opening.{IsSpelledSound};
 ghost use Rattle.tv_app.specs.Running.{Runs, started};
 ghost use Rattle.tv_model.specs.declared.desc.Desc.{Desc as Declared};
 ghost use Rattle.tv_machine.specs.Dialog.Sound.{HasSoundDialogs};
-ghost use Rattle.tv_reach.specs.Goals.{IsAnswer, Reaches};
+ghost use Rattle.tv_reach.specs.Answers.{IsAnswer, IsNever};
+ghost use Rattle.tv_reach.specs.Goals.{Reaches};
 ghost use Rattle.tv_reach.specs.Never.{DialogsRise};
-ghost use Rattle.tv_ways.specs.Running.{IsNever};
 
 use crate::outline::Outline;
 use crate::path::Step;

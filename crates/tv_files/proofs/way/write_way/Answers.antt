@@ -6,7 +6,7 @@ use Rattle.tv_files.specs.Way.EndsAt.{reached}
 use Rattle.tv_files.proofs.WaysLemmas.{unreached-by}
 use Rattle.tv_reach.specs.declared.answer.Answer.{Answer}
 use Rattle.tv_reach.specs.declared.goal.Goal.TheVariants.{Ends}
-use Rattle.tv_reach.specs.Goals.{IsAnswer}
+use Rattle.tv_reach.specs.Answers.{IsAnswer}
 use Rattle.tv_files.proofs.way.write_way.Goals as goal
 
 pub returns-in-Way : goal.returns-in-Way
