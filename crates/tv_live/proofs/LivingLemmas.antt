@@ -48,6 +48,7 @@ module _ {P : Type 0} {makes : Promise P} {colours : Colours} {program : P} {s :
     earlier = l.earlier;
     done = l.done;
     came = came-by (symbols_in_all pieces) input later scene.stopped l.now l.rest outcome come l.ended;
+    passed = λ unread. absurd (subst (IsEndedBy l.now l.rest scene.stopped) unread l.ended);
   }
 
   -- its input ended
@@ -61,11 +62,12 @@ module _ {P : Type 0} {makes : Promise P} {colours : Colours} {program : P} {s :
     earlier = l.earlier;
     done = l.done;
     came = (come, l.goes, refl, at_end, l.going);
+    passed = λ unread. absurd cc;
   }
 
   -- its input failed
-  pub run-unread : (mid : Heard) → HasCome input mid (symbols_in_all pieces) → ComesNot mid later → IsLiving makes colours program s from (causes_of pieces) scene → HasRun makes colours program s from input later scene (Err faults.Read)
-  run-unread mid come failed l = record {
+  pub run-unread : (mid : Heard) → HasCome input mid (symbols_in_all pieces) → ComesNot mid later → scene.screen.kept ≡ [] → IsLiving makes colours program s from (causes_of pieces) scene → HasRun makes colours program s from input later scene (Err faults.Read)
+  run-unread mid come failed none l = record {
     pieces = pieces;
     first = causes_of pieces;
     rest = [];
@@ -74,6 +76,7 @@ module _ {P : Type 0} {makes : Promise P} {colours : Colours} {program : P} {s :
     earlier = l.earlier;
     done = l.done;
     came = ((mid, come, failed), l.goes, refl, l.going);
+    passed = λ unread. none;
   }
 
 -- one piece more

@@ -156,6 +156,7 @@ pub record HasRun {P : Type 0} (makes : Promise P) (colours : Colours) (program 
   pub earlier : List (Moment P)
   pub done : HasDone makes colours program s from first now earlier now.session scene
   pub came : CameTo (symbols_in_all pieces) now rest input later scene.stopped outcome
+  pub passed : outcome ≡ Err faults.Read → scene.screen.kept ≡ []
 
 -- begun, and with nothing read yet, it comes to that
 abbrev pub RunsOn : {P : Type 0} → Promise P → (input later : Heard) → (old new : Scene P) → Result Parting PlayFault → Type 0

@@ -216,8 +216,8 @@ plays-on s symbols from now Left (Some outcome) piece is turned = absurd cc
 plays-on s symbols from now Left None piece is turned = turned
 
 -- its input failed, before which all was passed on
-pub run-unheard : (s : Session) (symbols : List Symbol) (input mid left : Heard) (from now : Outside) (Left : Session → Type 0) → HasCome input mid symbols → ComesNot mid left → now.log.kept ≡ [] → now.tape.kept ≡ [] → IsPlaying s symbols from now Left → HasRun s input left from now Left (Err faults.Read)
-run-unheard s symbols input mid left from now Left come failed none clear p = record {
+pub run-unheard : (s : Session) (symbols : List Symbol) (input mid left : Heard) (from now : Outside) (Left : Session → Type 0) → HasCome input mid symbols → ComesNot mid left → now.log.kept ≡ [] → now.tape.kept ≡ [] → now.screen.kept ≡ [] → IsPlaying s symbols from now Left → HasRun s input left from now Left (Err faults.Read)
+run-unheard s symbols input mid left from now Left come failed none clear shown p = record {
   symbols = symbols;
   actions = p.actions;
   rest = [];
@@ -225,7 +225,7 @@ run-unheard s symbols input mid left from now Left come failed none clear p = re
   shown = p.shown;
   left = p.performs.left;
   taped = p.taped;
-  came = ((mid, come, failed), refl, p.performs.written, p.going, p.whole, none, clear);
+  came = ((mid, come, failed), refl, p.performs.written, p.going, p.whole, none, clear, shown);
 }
 
 -- ---- the end

@@ -145,7 +145,7 @@ CameTo s symbols actions rest input later from now (Ok partings.Ended) =
 CameTo s symbols actions rest input later from now (Err faults.Read) =
     ((mid : Heard) × HasCome input mid symbols × ComesNot mid later) × (rest ≡ [])
     × Takes from.log now.log (output s (script_of s.desc actions)) × (now.stopped ≡ false) × (now.torn ≡ false)
-    × (now.log.kept ≡ []) × (now.tape.kept ≡ [])
+    × (now.log.kept ≡ []) × (now.tape.kept ≡ []) × (now.screen.kept ≡ [])
 CameTo s symbols actions rest input later from now outcome =
     HasCome input later symbols × IsEndedBy s actions rest from now outcome
 

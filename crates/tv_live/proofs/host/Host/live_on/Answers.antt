@@ -32,7 +32,7 @@ returns-in_default-clause-runs g c = λ colours program s from living.
     let before = c.loop-turn.invariant in
     let here = scene_of g.T.Writer.seen c.loop-turn.self in
     let pen = c.pass_on.new.self in
-    run-unread before.pieces _ _ (passed here (g.T.Writer.seen pen.out.now) pen.stopped) (g.I.Pieces.heard c.loop-turn.pieces) before.came (c.next.ensures.failed c.in_default.is)
+    run-unread before.pieces _ _ (passed here (g.T.Writer.seen pen.out.now) pen.stopped) (g.I.Pieces.heard c.loop-turn.pieces) before.came (c.next.ensures.failed c.in_default.is) (c.pass_on.ensures.none c.if-self.false)
     (living-passed (causes_of before.pieces) here (g.T.Writer.seen pen.out.now) pen.stopped c.pass_on.ensures.puts.how c.if-self.false (before.lives colours program s from living))
 
 pub returns-in-Some-take_turn-clause-runs : goal.returns-in-Some-take_turn-clause-runs

@@ -37,6 +37,7 @@ returns-in_default-next-clause-runs g c = λ s from played.
     let turned = turned-passed s before.symbols from _ _ _ _ _ _ _ _ _ _ _ _ c.pass_on-passed.result c.pass_on-passed.ensures c.pass_on.ensures.puts.how c.pass_on-in-loop-turn.ensures.puts.how (before.plays s from played).run in
     run-unheard s before.symbols _ (g.P.Pieces.heard c.loop-turn.pieces) _ from _ _ before.came (c.next.ensures.failed c.in_default-next.is) (passes-on _ _ c.pass_on-passed.result _ _ none c.pass_on-passed.ensures)
     (c.pass_on-in-loop-turn.ensures.none (going-both false c.pass_on-passed.result _ _ (sym none)).1)
+    (c.pass_on.ensures.none (going-both false c.pass_on-passed.result _ _ (sym none)).0)
     (played-on s before.symbols from _ _ _ none turned)
 
 pub take_piece-outcome-requires-clause-within : goal.take_piece-outcome-requires-clause-within
