@@ -1,13 +1,12 @@
 //! What a program draws: sheets, in windows and in the open dialog, by name.
 
-ghost use Rattle.std.specs.Prelude.{◌≡◌, [], Err, IfErr, IfOk, IfSome, None, Some};
+ghost use Rattle.std.specs.Prelude.{◌≡◌, [], Err, IfErr, IfOk, IfSome, IsSomeAnd, None, Some};
 ghost use Rattle.tv_app.specs.Running.{Runs};
 ghost use Rattle.tv_app.specs.Sheets.{IsLaidFrom, IsOpenNamed, IsSheetFor, is_front_named, place_named};
 ghost use Rattle.tv_cells.specs.Damage.{Holds};
 ghost use Rattle.tv_cells.specs.Layers.{Shows};
 ghost use Rattle.tv_cells.specs.Rectangle.{IsRectNear};
 ghost use Rattle.tv_cells.specs.Repainting.{KeepsRest};
-ghost use Rattle.tv_cells.specs.declared.rect.Rect.{Rect as Region};
 ghost use Rattle.tv_machine.specs.Run.{Session};
 ghost use Rattle.tv_machine.specs.Screen.Bars.{without_edge};
 ghost use Rattle.tv_machine.specs.Screen.Bodies.{whole_screen};
@@ -76,7 +75,7 @@ impl App {
     ///
     /// `NotOpen` where nothing of the name is open; `NoMemory`.
     pub fn sheet(&self, alloc: Global, name: &str) -> Result<Screen, LayFault>
-        ensures size { IfOk result (λ sheet. (s : Session) (r : Region) → Runs self.now s → place_named s name.now ≡ Some r → IsSheetFor r sheet) }
+        ensures size { IfOk result (λ sheet. (s : Session) → Runs self.now s → IsSomeAnd (place_named s name.now) (λ r. IsSheetFor r sheet)) }
         ensures blank { IfOk result (λ sheet. Shows [] sheet) }
         ensures absent { result ≡ Err NotOpen → (s : Session) → Runs self.now s → place_named s name.now ≡ None }
     {
