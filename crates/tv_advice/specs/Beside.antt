@@ -5,6 +5,7 @@ use Rattle.tv_certificate.specs.declared.certificate.Certificate.{Certificate}
 use Rattle.tv_certificate.specs.declared.reading.CertificateFault.TheVariants as certificates
 use Rattle.tv_check.specs.Certificates.{IsSoundCertificate}
 use Rattle.tv_check.specs.Refusals.{RefusesToAccept}
+use Rattle.tv_check.specs.declared.acceptance.Refusal.TheVariants as refusals
 use Rattle.tv_model.specs.declared.desc.Desc.{Desc}
 use Rattle.tv_machine.specs.declared.script.Item.{Item}
 use Rattle.tv_script.specs.Scripts.{RefusesScript, SpellsAScript}
@@ -18,6 +19,7 @@ use Rattle.tv_advice.specs.declared.manner.Manner.{Manner}
 -- whether the certificate is that of the description
 abbrev pub IsCompared : Desc → Certificate → Beside → Type 0
 IsCompared desc certificate besides.Fine = IsSoundCertificate desc certificate
+IsCompared desc certificate (besides.Refused refusals.NoMemory) = ⊥
 IsCompared desc certificate (besides.Refused refusal) = RefusesToAccept desc certificate refusal
 IsCompared desc certificate _ = ⊥
 
@@ -43,6 +45,7 @@ HasFaultyScriptLine manner name width height text report =
 -- what is told of a certificate
 abbrev pub IsToldOfCertificate : Manner → (name : List ℕ) → Desc → (text : List ℕ) → Beside → Type 0
 IsToldOfCertificate manner name desc text besides.Fine = SpellsAndIs (IsSoundCertificate desc) text
+IsToldOfCertificate manner name desc text (besides.Refused refusals.NoMemory) = ⊥
 IsToldOfCertificate manner name desc text (besides.Refused refusal) =
     SpellsAndIs (λ certificate. RefusesToAccept desc certificate refusal) text
 IsToldOfCertificate manner name desc text (besides.Faulty report) =

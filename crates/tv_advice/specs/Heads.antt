@@ -18,21 +18,21 @@ abbrev pub shown_in : Manner → Colour → (text : List ℕ) → List ℕ
 shown_in manners.Coloured colour text = sequence colour ++ (text ++ 27 ∷ codes "[0m")
 shown_in _ colour text = text
 
--- FILE:LINE:COLUMN: FAULT
+-- FILE:LINE:COLUMN: FAULT: with a space behind it
 abbrev pub plain_head : Manner → (name : List ℕ) → (line column : ℕ) → (fault : List ℕ) → List ℕ
 plain_head manner name line column fault =
     name ++ (58 ∷ (decimal line ++ (58 ∷ (decimal column
-    ++ (codes ": " ++ shown_in manner colours.Fault fault)))))
+    ++ (codes ": " ++ (shown_in manner colours.Fault fault ++ codes ": "))))))
 
 -- a text as JSON has it
 abbrev pub in_json : (text : List ℕ) → List ℕ
 in_json text = compact_text (string text)
 
--- the first members of an object of JSON
+-- the first members of an object of JSON, with a comma behind them
 abbrev pub object_head : (name : List ℕ) → (line column : ℕ) → (fault : List ℕ) → List ℕ
 object_head name line column fault =
     codes "{\"file\":" ++ (in_json name ++ (codes ",\"line\":" ++ (decimal line
-    ++ (codes ",\"column\":" ++ (decimal column ++ (codes ",\"fault\":" ++ in_json fault))))))
+    ++ (codes ",\"column\":" ++ (decimal column ++ (codes ",\"fault\":" ++ (in_json fault ++ codes ",")))))))
 
 -- the head of a block
 abbrev pub block_head : Manner → (name : List ℕ) → (line column : ℕ) → (fault : List ℕ) → List ℕ

@@ -16,7 +16,7 @@ fn in_json(alloc: Global, text: &str) -> Result<String, AllocError>
     Value::String(String::from_str(alloc, text)?).to_string(alloc)
 }
 
-// The first members of an object.
+// The first members of an object, with a comma behind them.
 fn object_head(
     alloc: Global,
     name: &str,
@@ -28,10 +28,10 @@ fn object_head(
 {
     let file = in_json(alloc, name)?;
     let fault = in_json(alloc, fault)?;
-    format!(in alloc; "{{\"file\":{file},\"line\":{line},\"column\":{column},\"fault\":{fault}")
+    format!(in alloc; "{{\"file\":{file},\"line\":{line},\"column\":{column},\"fault\":{fault},")
 }
 
-// What editors take for a place, and the fault.
+// What editors take for a place, and the fault, with a colon and a space behind each.
 fn plain_head(
     alloc: Global,
     source: &Source,
@@ -44,7 +44,7 @@ fn plain_head(
 {
     let name = source.name;
     let fault = shown_in(alloc, source.manner, Colour::Fault, fault)?;
-    format!(in alloc; "{name}:{line}:{column}: {fault}")
+    format!(in alloc; "{name}:{line}:{column}: {fault}: ")
 }
 
 /// Writes the head of a block: the file, the line and the column, and the fault.

@@ -48,11 +48,11 @@ fn other_of(note: &Note) -> Other<'_> {
     }
 }
 
-// Writes members behind others, and ends the object and the line.
+// Writes the members that end an object, and ends the line.
 fn members_text<M: Serialize>(alloc: Global, members: &M) -> Result<String, AllocError> {
     let object = object(serde_json::to_string(alloc, members))?;
     let members = object.strip_prefix("{").unwrap_or("}");
-    format!(in alloc; ",{members}\n")
+    format!(in alloc; "{members}\n")
 }
 
 // An object of JSON. Writing one into a text fails for want of memory alone.

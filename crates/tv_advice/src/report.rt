@@ -112,7 +112,7 @@ fn noted_lines(
     own: Shown,
     other: Option<Shown>,
 ) -> Result<String, AllocError> {
-    let mut told = format!(in alloc; ": {message}\n")?;
+    let mut told = format!(in alloc; "{message}\n")?;
     if let Some(other) = other {
         push_note(alloc, &mut told, excerpt, other)?;
     }
@@ -289,7 +289,7 @@ fn label_text(alloc: Global, note: &Note, mark: Mark) -> Result<String, AllocErr
     Ok(text)
 }
 
-// Adds the last line: what helps.
+// Adds a line that helps.
 fn push_help(
     alloc: Global,
     told: &mut String,

@@ -195,7 +195,11 @@ pub fn explain_behind(
             context.pass(at, keyword)?;
         }
     }
-    if number <= at && !context.stage.may_end() && context.innermost().is_some() {
+    if found.len() < MOST
+        && number <= at
+        && !context.stage.may_end()
+        && context.innermost().is_some()
+    {
         let complaint = missing_line(alloc, &context)?;
         found.push(unread_on(alloc, &lines, complaint, at.saturating_add(1))?)?;
     }

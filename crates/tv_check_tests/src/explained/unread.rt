@@ -1,6 +1,7 @@
 //! Texts that can't be read.
 
 use super::reports::{expect_reports, expect_told};
+use std::alloc::Global;
 use std::test::Fail;
 use tv_advice::{Manner, Told, tell};
 use tv_words::Lines;
@@ -1135,14 +1136,29 @@ fn count_blocks(report: &str) -> usize {
     count
 }
 
+// How many blocks are told of these lines behind the head.
+fn blocks_told(alloc: Global, lines: &str) -> Result<usize, Fail> {
+    let text = format!(in alloc; "{HEAD}{lines}")?;
+    match tell(alloc, Manner::Plain, "form.tvd", text.as_bytes())? {
+        Told::Faulty(report) => Ok(count_blocks(&report)),
+        _ => Err(Fail::new("nothing is told")),
+    }
+}
+
 #[test]
 fn most_lines(rt: HostRuntime) -> Result<(), Fail> {
     let alloc = rt.alloc();
     let lines = "frame\n".repeat(alloc, 150)?;
-    let text = format!(in alloc; "{HEAD}{lines}")?;
-    match tell(alloc, Manner::Plain, "form.tvd", text.as_bytes())? {
-        Told::Faulty(report) => assert_eq!(rt; count_blocks(&report), 100),
-        _ => return Err(Fail::new("nothing is told")),
-    }
+    assert_eq!(rt; blocks_told(alloc, &lines)?, 100);
+    Ok(())
+}
+
+// The `end` that is missing, too, would be one block too many.
+#[test]
+fn most_lines_of_an_open_dialog(rt: HostRuntime) -> Result<(), Fail> {
+    let alloc = rt.alloc();
+    let texts = "text x\n".repeat(alloc, 100)?;
+    let lines = format!(in alloc; "dialog d 1 1 20 10 \"D\" ends cancel\n{texts}")?;
+    assert_eq!(rt; blocks_told(alloc, &lines)?, 100);
     Ok(())
 }
