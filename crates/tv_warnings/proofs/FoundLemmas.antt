@@ -8,6 +8,8 @@ use Rattle.tv_warnings.specs.declared.finding.Finding.{Finding}
 use Rattle.tv_warnings.specs.declared.finding.Finding.TheVariants as found
 use Rattle.tv_warnings.specs.declared.finding.RefusedEnd.{RefusedEnd}
 use Rattle.std.specs.List.{AllZip}
+use Rattle.std.specs.Prelude.{Any}
+use Rattle.tv_ways.specs.declared.asking.Way.{Way}
 use Rattle.std.proofs.lemmas.List.{append-nil, map-append}
 use Rattle.std.proofs.lemmas.List.Concat.{flat_map-append}
 use Rattle.tv_app.proofs.DeclaredLemmas.{zip_more}
@@ -30,15 +32,16 @@ found_more R ds i d old new xs less is so_far added own =
 
 -- ---- ends that are refused
 
-pub refused_none : (d : Desc) (place : ℕ) (dialog : Dialog) (old : List Finding) → AddsRefused d place dialog old old
-refused_none d place dialog old = ([], All-nil (IsRefusedEnd d place dialog), sym (append-nil old))
+pub refused_none : (d : Desc) (place : ℕ) (dialog : Dialog) (ways : List Way) (old : List Finding) → AddsRefused d place dialog ways old old
+refused_none d place dialog ways old = ([], All-nil (λ end. Any (λ way. IsRefusedEnd d place dialog way end) ways), sym (append-nil old))
 
-pub refused_more : (d : Desc) (place : ℕ) (dialog : Dialog) (old mid new : List Finding) (end : RefusedEnd) → AddsRefused d place dialog old mid
-    → IsRefusedEnd d place dialog end → new ≡ mid ++ found.Refused end ∷ [] → AddsRefused d place dialog old new
-refused_more d place dialog old mid new end so_far own added =
+pub refused_more : (d : Desc) (place : ℕ) (dialog : Dialog) (ways : List Way) (i : ℕ) (way : Way) → i < length ways → way ≡ get_or ways i way
+    → (old mid new : List Finding) (end : RefusedEnd) → AddsRefused d place dialog ways old mid
+    → IsRefusedEnd d place dialog way end → new ≡ mid ++ found.Refused end ∷ [] → AddsRefused d place dialog ways old new
+refused_more d place dialog ways i way less is old mid new end so_far own added =
     let told : RefusedEnd → Finding = λ (it : RefusedEnd). found.Refused it in (
       so_far.0 ++ end ∷ [],
-      All-push (IsRefusedEnd d place dialog) so_far.0 end so_far.1 own,
+      All-push (λ end. Any (λ way. IsRefusedEnd d place dialog way end) ways) so_far.0 end so_far.1 (i, way, less, sym is, own),
       added ∙ ap (λ (fs : List Finding). fs ++ found.Refused end ∷ []) so_far.2 ∙ append_assoc old (map told so_far.0) (found.Refused end ∷ [])
           ∙ ap (λ (fs : List Finding). old ++ fs) (sym (map-append told so_far.0 (end ∷ []))),
     )

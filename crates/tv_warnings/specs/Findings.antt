@@ -1,8 +1,8 @@
 -- What there is to warn of in a sound description.
-use Rattle.std.specs.Prelude.{◌≡◌, [], ℕ, Bool, true, false, List, ◌∷◌, ◌++◌, All, Option, Some, None, codes}
+use Rattle.std.specs.Prelude.{◌≡◌, [], ℕ, Bool, true, false, List, ◌∷◌, ◌++◌, All, Any, Option, Some, None, codes}
 use Rattle.std.specs.Prelude.{filter, flat_map, if◌then◌else◌, map, slice_get, ◌==◌}
 use Rattle.std.specs.List.{AllZip, list_any}
-use Rattle.tv_event.specs.Commands.{cm_no, cm_ok, cm_yes}
+use Rattle.tv_event.specs.Commands.{cm_cancel, cm_no, cm_ok, cm_yes}
 use Rattle.tv_event.specs.declared.event.Command.{Command}
 use Rattle.tv_model.specs.declared.command.CommandSpec.{CommandSpec}
 use Rattle.tv_model.specs.declared.command.CommandSpec.TheVariants as commands
@@ -136,22 +136,31 @@ way_findings dialog ways way =
     if is_told_of dialog.views ways way.goal then []
     else listed (answer_found dialog.node.id way.goal way.answer)
 
--- an end of the dialog that a hidden input refuses
-abbrev pub IsRefusedEnd : Desc → ℕ → Dialog → RefusedEnd → Type 0
-IsRefusedEnd d place dialog refused =
-    (refused.end.dialog ≡ dialog.node.id) × IsRefused d place refused.input refused.events
+-- the end to which the answer has a way, but for `cancel`, which no input refuses
+abbrev pub end_by : Goal → Answer → Option Command
+end_by (goals.Ends command) (answers.Way events) = if command.0 == cm_cancel then None else Some command
+end_by goal answer = None
+
+abbrev pub end_reached : Way → Option Command
+end_reached way = end_by way.goal way.answer
+
+-- an end of the dialog to which there is a way, and which a hidden input refuses
+abbrev pub IsRefusedEnd : Desc → ℕ → Dialog → Way → RefusedEnd → Type 0
+IsRefusedEnd d place dialog way refused =
+    (refused.end.dialog ≡ dialog.node.id) × (end_reached way ≡ Some refused.end.command)
+    × IsRefused d place refused.input refused.events
 
 -- such ends come behind what was found before
-abbrev pub AddsRefused : Desc → ℕ → Dialog → (old new : List Finding) → Type 0
-AddsRefused d place dialog old new =
-    (refused : List RefusedEnd) × All (IsRefusedEnd d place dialog) refused
+abbrev pub AddsRefused : Desc → ℕ → Dialog → List Way → (old new : List Finding) → Type 0
+AddsRefused d place dialog ways old new =
+    (refused : List RefusedEnd) × All (λ end. Any (λ way. IsRefusedEnd d place dialog way end) ways) refused
     × (new ≡ old ++ map (λ end. found.Refused end) refused)
 
 -- what is found in the dialog at the place: what right answers tell, and then ends that are refused so
 pub record IsFoundAt (d : Desc) (place : ℕ) (dialog : Dialog) (findings : List Finding) : Type 0 where
   pub ways : List Way
   pub right : AllZip (IsWay d place) (asked_of dialog) ways
-  pub all : AddsRefused d place dialog (flat_map (way_findings dialog ways) ways) findings
+  pub all : AddsRefused d place dialog ways (flat_map (way_findings dialog ways) ways) findings
 
 abbrev pub IsFoundIn : Desc → Dialog → List Finding → Type 0
 IsFoundIn d dialog findings =

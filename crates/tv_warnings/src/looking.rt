@@ -6,7 +6,7 @@ ghost use Rattle.tv_app.specs.Opening.{IsSpelledSound};
 ghost use Rattle.tv_model.specs.declared.node.Node.{Node as Declared};
 ghost use Rattle.tv_ways.specs.Cuts.{cuts_of};
 ghost use Rattle.tv_ways.specs.Idle.{idle_commands};
-ghost use Rattle.tv_warnings.specs.Findings.{AddsRefused, AreFindings, IsFoundAt, IsRefusedEnd, answer_found, asked_of, ends_by, is_only_shown, is_told_of, is_ungiven_by, is_ungiven_kind, never_found, shown_goals, unknown_found, way_findings};
+ghost use Rattle.tv_warnings.specs.Findings.{AddsRefused, AreFindings, IsFoundAt, IsRefusedEnd, answer_found, asked_of, end_reached, ends_by, is_only_shown, is_told_of, is_ungiven_by, is_ungiven_kind, never_found, shown_goals, unknown_found, way_findings};
 ghost use Rattle.tv_warnings.specs.declared.finding.Finding.TheVariants as tellings;
 
 use crate::finding::{BlockedEnd, End, Finding, Member, RefusedEnd, Unknown};
@@ -146,7 +146,9 @@ fn add_ways(found: &mut Vec<Finding>, dialog: &Dialog, ways: &[Way]) -> Result<(
 }
 
 // The end by which the goal is reached, if a hidden input may refuse it.
-fn reached_end(way: &Way) -> Option<Command> {
+fn reached_end(way: &Way) -> Option<Command>
+    ensures { result ≡ end_reached way.now }
+{
     match (way.goal, &way.answer) {
         (Goal::Ends(command), Answer::Way(_)) if command != Command::CANCEL => Some(command),
         _ => None,
@@ -160,7 +162,7 @@ fn refused_end(
     way: &Way,
 ) -> Result<Option<RefusedEnd>, AllocError>
     requires { IsSpelledSound placed.text.now placed.desc.now }
-    ensures { IfOk result (λ found. IfSome found (IsRefusedEnd placed.entry.desc.now placed.entry.place placed.entry.dialog.now)) }
+    ensures { IfOk result (λ found. IfSome found (IsRefusedEnd placed.entry.desc.now placed.entry.place placed.entry.dialog.now way.now)) }
 {
     let Some(command) = reached_end(way) else {
         return Ok(None);
@@ -187,7 +189,7 @@ fn add_refused(
     ways: &[Way],
 ) -> Result<(), AllocError>
     requires { IsSpelledSound placed.text.now placed.desc.now }
-    ensures { OnOk result (AddsRefused placed.entry.desc.now placed.entry.place placed.entry.dialog.now
+    ensures { OnOk result (AddsRefused placed.entry.desc.now placed.entry.place placed.entry.dialog.now ways.now
         found.old.items found.new.items) }
 {
     for way in ways {

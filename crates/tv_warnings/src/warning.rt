@@ -72,8 +72,8 @@ fn is_any_warning(found: &[Finding]) -> bool
     found.iter().any(|finding| finding.is_warning())
 }
 
-/// Warns of what there is to warn of in the description that the text spells, which is in the file of this name: with a block for
-/// each finding.
+/// Reports what fails the users of the description that the text spells, with a block for each finding. The text is that of the
+/// file of this name.
 pub fn warn(
     alloc: Global,
     manner: Manner,
