@@ -116,9 +116,9 @@ module _ (P Q : Desc → Type 0) (weaker : (text : List ℕ) (d : Desc) → IsSo
   RecordsFile-weaker : {colours : Colours} (files after : Known) (file script : List ℕ) (old new : Ports) (how : Done) (end : End) → RecordsFile P colours files after file script old new how end → RecordsFile Q colours files after file script old new how end
   RecordsFile-weaker files after file script old new how end (unread_record is same whole) = unread_record is same whole
   RecordsFile-weaker files after file script old new how end (refused_record text fault gives refuses same whole told) = refused_record text fault gives refuses same whole told
-  RecordsFile-weaker files after file script old new how end (unmade_record text d fault gives sound same whole told) = unmade_record text d fault gives sound same whole told
-  RecordsFile-weaker files after file script old new how end (played_record text made tape r gives came same told) =
-      played_record text made tape r gives (PlaysText-weaker text (with_tape old made) (with_tape new tape) r came) same told
+  RecordsFile-weaker files after file script old new how end (unmade_record text d fault read gives sound makes same whole told) = unmade_record text d fault read gives sound makes same whole told
+  RecordsFile-weaker files after file script old new how end (played_record text made tape r read gives makes came same told) =
+      played_record text made tape r read gives makes (PlaysText-weaker text (with_tape old made) (with_tape new tape) r came) same told
 
   -- why a text isn't run
   RefusesRun-weaker : (text : List ℕ) (fault : RunFault) → RefusesRun P text fault → RefusesRun Q text fault

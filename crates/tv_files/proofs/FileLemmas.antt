@@ -1,5 +1,5 @@
 -- One file after another, and what was read of one.
-use Rattle.std.proofs.Common.{◌≡◌, ℕ, ◌+◌, List, [], ◌∷◌, ◌++◌, take, Option, Some, None, IfSome, ap, subst, ◌∙◌, append_assoc}
+use Rattle.std.proofs.Common.{◌≡◌, ℕ, ◌+◌, List, [], ◌∷◌, ◌++◌, take, Option, Some, None, IfSome, ap, subst, sym, ◌∙◌, append_assoc}
 use Rattle.tv_io.specs.Reader.{Given}
 use Rattle.tv_io.specs.Reading.{IsRead}
 use Rattle.tv_files.specs.Ends.{End}
@@ -20,13 +20,15 @@ Extends-then (Some a) (Some b) (Some c) x y p q = q ∙ ap (λ (t : List (List �
 Opens-then : {a b c : Known} (x y : List (List ℕ)) → Opens a b x → Opens b c y → Opens a c (x ++ y)
 Opens-then {a} {b} {c} x y p q = record {
   order = Extends-then a.opened b.opened c.opened x y p.order q.order;
+  none = Extends-then a.made b.made c.made [] [] p.none q.none;
   same = λ path. q.same path ∙ p.same path;
+  there = λ path. q.there path ∙ p.there path;
 }
 
 -- what is known of the second file was known before the first one was opened
 module _ {files mid : Known} (file beside : List ℕ) (opens : Opens files mid (file ∷ [])) where
   pub IsFileOf-then : {reader : Given} → IsFileOf mid beside reader → IsFileOf files beside reader
-  IsFileOf-then is = record { left = rw (opens.same beside) at is.left; going = is.going; unfailed = is.unfailed }
+  IsFileOf-then is = record { there = sym (opens.there beside) ∙ is.there; left = rw (opens.same beside) at is.left; going = is.going; unfailed = is.unfailed }
 
   BreaksOffIn-then : {limit : ℕ} → BreaksOffIn limit mid beside → BreaksOffIn limit files beside
   BreaksOffIn-then breaks = record { reader = breaks.reader; left = breaks.left; file = IsFileOf-then breaks.file; breaks = breaks.breaks }

@@ -15,7 +15,7 @@ use Rattle.tv_files.specs.declared.done.Done.{Done}
 use Rattle.tv_files.specs.declared.done.Done.TheVariants.{Whole}
 use Rattle.tv_files.specs.Ends.{End, done_of_play, end_of_record, end_of_run, end_of_tape, path_of_run}
 use Rattle.tv_files.specs.Ends.End.{faulted}
-use Rattle.tv_files.specs.Files.{Known, longest}
+use Rattle.tv_files.specs.Files.{Known, MakesFile, longest}
 use Rattle.tv_files.specs.Tasks.{GivesText, IsUnread, terminal}
 use Rattle.tv_files.specs.World.{KnownWorld, ports_of}
 
@@ -23,7 +23,7 @@ use Rattle.tv_files.specs.World.{KnownWorld, ports_of}
 abbrev pub with_tape : Ports → Seen → Ports
 with_tape ports tape = record ports { tape = tape }
 
--- The file of the script is made once the description is found sound, and before the terminal is touched
+-- The file of the script is made once the description is found sound, and before the terminal is touched; no other is made
 pub data RecordsFile (Mismade : Desc → Type 0) (colours : Colours) (files after : Known) (file script : List ℕ) (old new : Ports)
     (how : Done) (end : End) : Type 0 where
   unread : IsUnread longest files after (file ∷ []) file end → new ≡ old → how ≡ Whole
@@ -32,11 +32,11 @@ pub data RecordsFile (Mismade : Desc → Type 0) (colours : Colours) (files afte
       → RefusesDesc text fault → new ≡ old → how ≡ Whole
       → end ≡ faulted (run_told fault) (path_of_run fault file terminal)
       → RecordsFile Mismade colours files after file script old new how end
-  unmade : (text : List ℕ) (d : Desc) (fault : AlbumFault) → GivesText longest files after (file ∷ []) file text
-      → IsSoundText text d → new ≡ old → how ≡ Whole → end ≡ end_of_tape script fault
+  unmade : (text : List ℕ) (d : Desc) (fault : AlbumFault) (read : Known) → GivesText longest files read (file ∷ []) file text
+      → IsSoundText text d → MakesFile read after script → new ≡ old → how ≡ Whole → end ≡ end_of_tape script fault
       → RecordsFile Mismade colours files after file script old new how end
-  played : (text : List ℕ) (made tape : Seen) (r : Result Parting RunFault)
-      → GivesText longest files after (file ∷ []) file text
+  played : (text : List ℕ) (made tape : Seen) (r : Result Parting RunFault) (read : Known)
+      → GivesText longest files read (file ∷ []) file text → MakesFile read after script
       → PlaysText Mismade colours text (with_tape old made) (with_tape new tape) r → how ≡ done_of_play r
       → end ≡ end_of_record file script r
       → RecordsFile Mismade colours files after file script old new how end

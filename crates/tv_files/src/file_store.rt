@@ -1,14 +1,13 @@
 //! Where files come from.
 
-ghost use Rattle.std.specs.Prelude.{◌≡◌};
-ghost use Rattle.tv_files.specs.Files.{Known, OpensAs};
+ghost use Rattle.tv_files.specs.Files.{Known, MakesFile, OpensAs};
 
 use std::alloc::Global;
 use tv_io::{ReadFault, Reader, Writer};
 use tv_program::AlbumFault;
 
-/// Where files come from. Contracts see what the file of each path holds and which paths were opened, in order, where
-/// these are known.
+/// Where files come from. Contracts see what the file of each path holds, at which paths there is none, and which paths were
+/// opened and which were made, in order, where these are known.
 pub trait FileStore {
     /// A file that was opened, and is read from its first byte on.
     type File: Reader + Drop;
@@ -22,7 +21,7 @@ pub trait FileStore {
     fn open(&mut self, path: &str) -> Result<Self::File, ReadFault>
         ensures { OpensAs Self.File.seen (known self.old) (known self.new) path.now result };
 
-    /// Makes the file of a path, in place of what it held.
+    /// Makes the file of a path, in place of what it held. A path counts as made also where its file can't be.
     fn make(&mut self, alloc: Global, path: &str) -> Result<Self::Made, AlbumFault>
-        ensures { known self.new ≡ known self.old };
+        ensures { MakesFile (known self.old) (known self.new) path.now };
 }

@@ -1,6 +1,6 @@
 //! The files of the system.
 
-ghost use Rattle.std.specs.Prelude.{None};
+ghost use Rattle.std.specs.Prelude.{None, false};
 
 use crate::file_store::FileStore;
 use crate::runtime_album::fault_of;
@@ -28,7 +28,7 @@ impl<R: Files> FileStore for RuntimeFiles<'_, R> {
 
     type Made = Device<R::File>;
 
-    ghost known = { λ _. record { contents = λ _. None; opened = None } };
+    ghost known = { λ _. record { contents = λ _. None; absent = λ _. false; opened = None; made = None } };
 
     fn open(&mut self, path: &str) -> Result<FileReader<R::File>, ReadFault> {
         let file = File::open(self.rt, path)?;

@@ -1,6 +1,6 @@
 //! Streams: writers that may keep bytes back.
 
-ghost use Rattle.std.specs.Prelude.{◌≡◌, [], IfOk};
+ghost use Rattle.std.specs.Prelude.{◌≡◌, [], IfOk, false};
 ghost use Rattle.std.specs.Io.KnownBytes.{Keeps};
 ghost use Rattle.tv_io.specs.Device.{device_seen};
 ghost use Rattle.tv_files.specs.Streams.{Flushes};
@@ -86,6 +86,7 @@ impl<W: Write + Drop> DirectStream<W> {
     pub fn new(writer: W) -> DirectStream<W>
         ensures writer { result.writer ≡ writer }
         ensures count { result.failures ≡ 0 }
+        ensures whole { result.is_broken ≡ false }
     {
         DirectStream {
             writer,

@@ -46,8 +46,8 @@ const VERSION: &str = "tvdlg 1.0.0\n";
 /// Does what is asked for, and writes its result to the world's `out`.
 ///
 /// `views` makes the views of a description that is run, drawn, played or answered; no other task calls it. The world's `album` takes the
-/// pictures of a task that draws more than one. Its `pieces` and `err` are those of a description that is played: the keys and the
-/// screen.
+/// pictures of a task that draws more than one. Its `pieces` are the keys of a description that is played, and its `err` takes the
+/// screen of that, or what doesn't fit of answers.
 pub fn perform<
     'a,
     V: View,

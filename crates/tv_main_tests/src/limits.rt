@@ -21,13 +21,13 @@ struct Lone<'a> {
 }
 
 impl<'a> FileStore for Lone<'a> {
-    ghost use Rattle.std.specs.Prelude.{None};
+    ghost use Rattle.std.specs.Prelude.{None, false};
 
     type File = FileReader<&'a [u8]>;
 
     type Made = Memory;
 
-    ghost known = { λ _. record { contents = λ _. None; opened = None } };
+    ghost known = { λ _. record { contents = λ _. None; absent = λ _. false; opened = None; made = None } };
 
     fn open(&mut self, path: &str) -> Result<FileReader<&'a [u8]>, ReadFault> {
         if path == self.path {

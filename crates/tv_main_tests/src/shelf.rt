@@ -93,14 +93,19 @@ impl<'a> Shelf<'a> {
 }
 
 impl<'a> FileStore for Shelf<'a> {
-    ghost use Rattle.std.specs.Prelude.{None};
+    ghost use Rattle.std.specs.Prelude.{None, false};
     ghost use Rattle.tv_main_tests.specs.Shelves.{text_at};
 
     type File = FileReader<Page<'a>>;
 
     type Made = Memory;
 
-    ghost known = { λ s. record { contents = λ path. text_at s.description.now s.beside.now path; opened = None } };
+    ghost known = { λ s. record {
+      contents = λ path. text_at s.description.now s.beside.now path;
+      absent = λ _. false;
+      opened = None;
+      made = None;
+    } };
 
     fn open(&mut self, path: &str) -> Result<FileReader<Page<'a>>, ReadFault> {
         if path == "FILE" {

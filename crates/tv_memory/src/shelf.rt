@@ -1,7 +1,9 @@
 //! Files in memory.
 
-ghost use Rattle.std.specs.Prelude.{◌≡◌, None};
-ghost use Rattle.tv_memory.specs.Shelves.{text_at};
+ghost use Rattle.std.specs.Prelude.{◌≡◌, Err};
+ghost use Rattle.tv_files.specs.Files.{MakesFile};
+ghost use Rattle.tv_memory.specs.Shelves.{files_of};
+ghost use Rattle.tv_program.specs.declared.album.AlbumFault.TheVariants.{Write};
 
 use std::alloc::Global;
 use tv_files::{AlbumFault, FileStore, ReadFault};
@@ -37,10 +39,7 @@ impl<'a> FileStore for Shelf<'a> {
 
     type Made = Gathering;
 
-    ghost known = { λ shelf. record {
-      contents = text_at shelf.first.name.now shelf.first.text.now shelf.second.name.now shelf.second.text.now;
-      opened = None;
-    } };
+    ghost known = { λ shelf. files_of shelf.first.name.now shelf.first.text.now shelf.second.name.now shelf.second.text.now };
 
     fn open(&mut self, path: &str) -> Result<FileReader<&'a [u8]>, ReadFault> {
         let path = path.as_bytes();
@@ -55,7 +54,12 @@ impl<'a> FileStore for Shelf<'a> {
         }
     }
 
-    fn make(&mut self, _alloc: Global, _path: &str) -> Result<Gathering, AlbumFault> {
+    // The first clause is that of the trait, which doesn't stand beside one of its own.
+    fn make(&mut self, _alloc: Global, _path: &str) -> Result<Gathering, AlbumFault>
+        ensures made { MakesFile (files_of self.old.first.name.now self.old.first.text.now self.old.second.name.now self.old.second.text.now)
+            (files_of self.new.first.name.now self.new.first.text.now self.new.second.name.now self.new.second.text.now) _path.now }
+        ensures unmade { result ≡ Err Write }
+    {
         Err(AlbumFault::Write)
     }
 }

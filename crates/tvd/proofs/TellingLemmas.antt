@@ -12,7 +12,8 @@ use Rattle.tv_memory.specs.Closed.{album_of, input_of}
 use Rattle.tv_io.specs.Rooms.{Shows}
 use Rattle.tv_memory.specs.Gathered.{IsShown, gathered}
 use Rattle.tv_memory.specs.Words.{IsBareUsage}
-use Rattle.tvd.specs.Telling.{Tells, answer_of, begun, files_of}
+use Rattle.tv_memory.specs.Shelves.{files_of}
+use Rattle.tvd.specs.Telling.{Tells, answer_of, begun}
 
 -- words that are a usage fault ask for nothing else
 pub bare : {W : Type 0} (words : Result W NoTask) (asked : Result Task NoTask) → IsAskedBy words asked → IsBareUsage words

@@ -1,5 +1,5 @@
 -- What the library tells of two files in memory.
-use Rattle.std.specs.Prelude.{◌≡◌, ◌==◌, if◌then◌else◌, ℕ, true, false, List, [], None, Result, IsUtf8}
+use Rattle.std.specs.Prelude.{◌≡◌, ◌==◌, if◌then◌else◌, ℕ, true, false, List, [], Result, IsUtf8}
 use Rattle.tv_files.specs.EndsWith.{EndsWith}
 use Rattle.tv_files.specs.Files.{Known}
 use Rattle.tv_files.specs.World.{KnownWorld}
@@ -7,12 +7,7 @@ use Rattle.tv_files.specs.declared.no_task.NoTask.{NoTask}
 use Rattle.tv_files.specs.declared.task.Task.{Task}
 use Rattle.tv_memory.specs.Closed.{album_of, input_of}
 use Rattle.tv_memory.specs.Gathered.{IsShown, gathered}
-use Rattle.tv_memory.specs.Shelves.{text_at}
 use Rattle.tv_memory.specs.Words.{IsBareUsage}
-
--- the two files
-abbrev pub files_of : (name text name2 text2 : List ℕ) → Known
-files_of name text name2 text2 = record { contents = text_at name text name2 text2; opened = None }
 
 -- the files, an album that takes no picture, an input at its end, and two streams to which nothing was written
 abbrev pub begun : Known → KnownWorld

@@ -18,8 +18,8 @@ pub extern "C" fn tvd_size() -> usize {
     SIZE
 }
 
-/// Begins a run of the description that the text spells in the room. Where it spells no sound one each call answers so. Either way
-/// the handle is to be closed.
+/// Begins a run of the description that the text spells in the room. Where it spells no sound one, each call that asks for
+/// something answers so. Either way the handle is to be closed.
 #[unsafe(no_mangle)]
 pub unsafe extern "C" fn tvd_open(at: *mut u8, alloc: Global, text: &[u8])
     requires* { sem 𝓛 (room_at the_row at) }

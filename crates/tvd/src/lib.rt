@@ -3,7 +3,8 @@
 
 mod doors;
 
-ghost use Rattle.tvd.specs.Telling.{Tells, files_of};
+ghost use Rattle.tv_memory.specs.Shelves.{files_of};
+ghost use Rattle.tvd.specs.Telling.{Tells};
 
 use std::alloc::Global;
 use tv_files::World;

@@ -1,8 +1,6 @@
-use Rattle.std.proofs.Common.{Ok, Err, [], ◌∷◌, ap, refl, rules, subst, sym}
+use Rattle.std.proofs.Common.{Ok, Err, ap, refl, rules}
 use Rattle.tv_program.specs.Playing.{IsMismade, Makes}
-use Rattle.tv_files.specs.Files.{Known, longest}
 use Rattle.tv_files.specs.Recording.RecordsFile.{played, refused, unmade}
-use Rattle.tv_files.specs.Tasks.{GivesText}
 use Rattle.tv_files.specs.World.{known_world, ports_of}
 use Rattle.tv_files.proofs.RecordLemmas.{unread-RecordsFile}
 use Rattle.tv_files.proofs.TaskLemmas.{PlaysText-lent}
@@ -23,18 +21,16 @@ returns-in-Err g c = (
 )
 
 pub returns-in-Err-make : goal.returns-in-Err-make
-returns-in-Err-make g c =
-    let gives = subst (λ (known : Known). GivesText longest (g.F.FileStore.known c.args.world.now.files) known (c.args.paths.file.now ∷ []) c.args.paths.file.now c.in_ok-text.text.items) (sym c.make.ensures) c.in_ok-text.ensures in (
-      refl,
-      unmade c.in_ok-text.text.items c.in-Ok.checked c.in-Err-make.fault gives (rw c.as_slice.ensures.value at c.in-Ok.ensures.sound) refl refl c.of_tape.ensures,
-    )
+returns-in-Err-make g c = (
+  refl,
+  unmade c.in_ok-text.text.items c.in-Ok.checked c.in-Err-make.fault _ c.in_ok-text.ensures (rw c.as_slice.ensures.value at c.in-Ok.ensures.sound) c.make.ensures refl refl c.of_tape.ensures,
+)
 
 pub returns-in-Ok-play_from : goal.returns-in-Ok-play_from
 returns-in-Ok-play_from g c =
-    let gives = subst (λ (known : Known). GivesText longest (g.F.FileStore.known c.args.world.now.files) known (c.args.paths.file.now ∷ []) c.args.paths.file.now c.in_ok-text.text.items) (sym c.make.ensures) c.in_ok-text.ensures in
     let same = c.play_from.ensures.same in (
       refl,
-      played c.in_ok-text.text.items _ _ (Ok c.in-Ok-play_from.parting) gives
+      played c.in_ok-text.text.items _ _ (Ok c.in-Ok-play_from.parting) _ c.in_ok-text.ensures c.make.ensures
           (PlaysText-lent _ _ _ _ _ _ _ _ _ _ _ (ap g.W.Writer.seen (search (rules, same.log))) (ap g.T.Writer.seen (search (rules, same.screen))) refl
           (c.in-Ok-play_from.ensures.output c.in_ok-text.text.items (rw c.as_slice.ensures.value at c.in-Ok.ensures.sound)))
           c.from.ensures refl,
@@ -42,10 +38,9 @@ returns-in-Ok-play_from g c =
 
 pub returns : goal.returns
 returns g c =
-    let gives = subst (λ (known : Known). GivesText longest (g.F.FileStore.known c.args.world.now.files) known (c.args.paths.file.now ∷ []) c.args.paths.file.now c.in_ok-text.text.items) (sym c.make.ensures) c.in_ok-text.ensures in
     let same = c.play_from.ensures.same in (
       refl,
-      played c.in_ok-text.text.items _ _ (Err c.in-Err-play_from.fault) gives
+      played c.in_ok-text.text.items _ _ (Err c.in-Err-play_from.fault) _ c.in_ok-text.ensures c.make.ensures
           (PlaysText-lent _ _ _ _ _ _ _ _ _ _ _ (ap g.W.Writer.seen (search (rules, same.log))) (ap g.T.Writer.seen (search (rules, same.screen))) refl
           (c.in-Err-play_from.ensures.output c.in_ok-text.text.items (rw c.as_slice.ensures.value at c.in-Ok.ensures.sound)))
           refl c.of_record.ensures,
