@@ -1,5 +1,5 @@
 -- The description of a box.
-use Rattle.std.specs.Prelude.{ℕ, ◌+◌, ◌-◌, pos, refl, true, false, List, [], ◌∷◌, ◌++◌, codes, fold, length}
+use Rattle.std.specs.Prelude.{◌≡◌, ℕ, ◌+◌, ◌-◌, pos, refl, true, false, List, [], ◌∷◌, ◌++◌, codes, fold, length}
 use Rattle.std.specs.Prelude.{max, ◌==◌, Some, None, if◌then◌else◌}
 use Rattle.tv_declarations.specs.CanonicalDescription.{description_text}
 use Rattle.tv_lang.specs.declared.description.LangFault.{LangFault}
@@ -22,6 +22,7 @@ use Rattle.tv_boxes.specs.declared.request.Item.{Item}
 use Rattle.tv_boxes.specs.declared.request.Request.{Request}
 use Rattle.tv_boxes.specs.Buttons.{button_views, buttons_columns, buttons_of}
 use Rattle.tv_boxes.specs.Items.{tag_columns}
+use Rattle.tv_boxes.specs.Lines.{at_line, on_lines}
 use Rattle.tv_boxes.specs.Sizes.{longest, size}
 use Rattle.tv_boxes.specs.Views.{are_few, field_views, list_rows, text_rows, view}
 use Rattle.tv_boxes.specs.Wrapping.{rows_of}
@@ -107,16 +108,17 @@ box_views r rows columns body =
     ++ (field_views (size (length rows) + 1) columns r.kind
     ++ button_views r.default_no (body + 1) (buttons_of r.kind r.labels))
 
--- the dialog, below the row of a menu bar
+-- the dialog, below the row of a menu bar; its own line is the fourth, below those of the version, the screen and
+-- the start
 abbrev pub box_dialog : Request → ℕ → ℕ → List Node → Dialog
 box_dialog r columns body views = record {
-  node = view 0 1 (columns + 4) (kinds.Dialog (record {
+  node = at_line 4 (view 0 1 (columns + 4) (kinds.Dialog (record {
     name = codes "box";
     h = pos (body + 3);
     title = r.title;
     opens = None;
     ends = ends_of r.kind;
-  }));
+  })));
   views = views;
   rules = [];
   own_kind = refl;
@@ -139,7 +141,7 @@ box_desc columns body dialog = record {
 -- the description of a box of this size
 abbrev pub desc_of_size : Request → List (List ℕ) → ℕ → ℕ → Desc
 desc_of_size r rows columns body =
-    box_desc columns body (box_dialog r columns body (box_views r rows columns body))
+    box_desc columns body (box_dialog r columns body (on_lines (box_views r rows columns body)))
 
 -- the description of a box with these rows of text
 abbrev pub desc_of_rows : Request → List (List ℕ) → Desc
@@ -155,9 +157,17 @@ boxed_desc r = desc_of_rows r (rows_of (wrap_columns r) r.text)
 abbrev pub boxed_text : Request → List ℕ
 boxed_text r = description_text (boxed_desc r)
 
--- the text spells a sound description
-abbrev pub IsSoundText : List ℕ → Type 0
-IsSoundText text = (d : Desc) × Spells text d × IsSound d
+-- the text spells the description, and that is sound
+abbrev pub SpellsSound : List ℕ → Desc → Type 0
+SpellsSound text d = Spells text d × IsSound d
+
+-- a description that was read is this one, and sound
+abbrev pub IsSoundAs : Desc → Desc → Type 0
+IsSoundAs d read = (read ≡ d) × IsSound read
+
+-- the box's text spells its own description, each label and item as it is given, and that is sound
+abbrev pub IsSoundBox : Request → Type 0
+IsSoundBox r = SpellsSound (boxed_text r) (boxed_desc r)
 
 -- a text can't be read for a reason of its own: memory didn't run out
 abbrev pub IsOfText : LangFault → Type 0
@@ -166,8 +176,12 @@ IsOfText (lang.Syntax line) = Unit {0}
 IsOfText lang.TooLong = Unit {0}
 IsOfText lang.Version = Unit {0}
 
--- memory ran out, or the box's text spells no sound description
+-- memory ran out, or the box's text doesn't spell its description, or that isn't sound
 abbrev pub RefusesBox : Request → BoxFault → Type 0
 RefusesBox r faults.NoMemory = Unit {0}
-RefusesBox r (faults.Unfit what) = ¬ IsSoundText (boxed_text r)
-RefusesBox r faults.Faults = ¬ IsSoundText (boxed_text r)
+RefusesBox r (faults.Unfit what) = ¬ IsSoundBox r
+RefusesBox r faults.Faults = ¬ IsSoundBox r
+
+-- the description has dialogs alone
+abbrev pub HasDialogsAlone : Desc → Type 0
+HasDialogsAlone d = (d.menus ≡ []) × (d.status ≡ []) × (d.windows ≡ [])

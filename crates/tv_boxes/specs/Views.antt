@@ -1,4 +1,4 @@
--- The views of a box: its text, its fields and its buttons. Their ids are 0, since no text has them.
+-- The views of a box: its text, its fields and its buttons, and the lines of these.
 use Rattle.std.specs.Prelude.{ℕ, ◌+◌, pos, Bool, false, List, [], ◌∷◌, ◌++◌, codes, fold, length, map}
 use Rattle.std.specs.Prelude.{max, min, nat_le, ◌==◌, Option, Some, None, if◌then◌else◌}
 use Rattle.std.specs.Fmt.{decimal}
@@ -13,7 +13,7 @@ use Rattle.tv_boxes.specs.declared.request.FormField.{FormField}
 use Rattle.tv_boxes.specs.Items.{first_on, item_rows, items_on, unmarked}
 use Rattle.tv_boxes.specs.Sizes.{size}
 
--- a view at a place
+-- a view at a place, on no line yet
 abbrev pub view : ℕ → ℕ → ℕ → Kind → Node
 view x y w kind = record { id = record { 0 = 0 }; depth = 0; x = pos x; y = pos y; w = pos w; kind = kind }
 
@@ -40,7 +40,7 @@ input_kind name most start = kinds.Input (record {
   validates = false;
 })
 
--- the rows of a list: as many as are wanted, or as there are items, but no more than 12
+-- the rows of a list: as many as are wanted; if that is 0, as there are items, but no more than 12
 abbrev pub list_rows : Choices → ℕ
 list_rows choices = if choices.rows == 0 then min (length choices.items) 12 else choices.rows
 

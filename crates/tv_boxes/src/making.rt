@@ -3,14 +3,16 @@
 ghost use Rattle.std.specs.Prelude.{◌≡◌, IfErr, IfOk, MatchBool, false, string_bytes};
 ghost use Rattle.tv_lang.specs.CanonicalDescription.{CanBeSpelled};
 ghost use Rattle.tv_model.specs.Faults.{IsSound};
-ghost use Rattle.tv_boxes.specs.Boxes.{IsOfText, IsSoundText, RefusesBox, box_desc, box_dialog, box_views, boxed_desc, boxed_text, desc_of_rows, ends_of};
+ghost use Rattle.tv_boxes.specs.Boxes.{HasDialogsAlone, IsOfText, IsSoundAs, IsSoundBox, RefusesBox, SpellsSound, box_desc, box_dialog, box_views, boxed_desc, boxed_text, desc_of_rows, ends_of};
 ghost use Rattle.tv_boxes.specs.Buttons.{buttons_of};
 ghost use Rattle.tv_boxes.specs.Sizes.{size};
 ghost use Rattle.tv_boxes.specs.Views.{view};
 
 use crate::buttons::Buttons;
 use crate::layout::{Extent, body_rows, columns_of, wrap_columns};
+use crate::lines::{at_line, on_lines};
 use crate::request::{BoxKind, Request};
+use crate::sameness::is_same;
 use crate::size::size;
 use crate::unfit::{Unfit, why_unfit};
 use crate::views::{field_views, text_rows, view};
@@ -48,16 +50,16 @@ impl From<AllocError> for BoxFault {
 
 /// Writes the description of a ready dialog: what `dialog` would show for these arguments.
 ///
-/// The text is that of the box's description, laid out as `boxed_desc` has it, wherever that is sound; else the answer
-/// is why it isn't.
+/// The text is that of the box's description, laid out as `boxed_desc` has it, wherever it spells that and that is
+/// sound; else the answer is why it isn't.
 pub fn boxed(alloc: Global, request: &Request) -> Result<String, BoxFault>
     ensures text { IfOk result (λ text. string_bytes text ≡ boxed_text request.now) }
-    ensures sound { IfOk result (λ text. IsSoundText (string_bytes text)) }
+    ensures sound { IfOk result (λ _. IsSoundBox request.now) }
     ensures fault { IfErr result (RefusesBox request.now) }
 {
     let desc = boxed_desc(alloc, request)?;
     let text = print(alloc, &desc)?;
-    if is_sound(alloc, &text)? {
+    if is_sound(alloc, &text, &desc)? {
         Ok(text)
     } else {
         Err(refusal(request, &desc))
@@ -66,7 +68,7 @@ pub fn boxed(alloc: Global, request: &Request) -> Result<String, BoxFault>
 
 // Why the box can't be shown, in words where there are any.
 fn refusal(request: &Request, desc: &Desc) -> BoxFault
-    requires { ¬ IsSoundText (boxed_text request.now) }
+    requires { ¬ IsSoundBox request.now }
     ensures { RefusesBox request.now result }
 {
     match why_unfit(request, desc) {
@@ -75,13 +77,29 @@ fn refusal(request: &Request, desc: &Desc) -> BoxFault
     }
 }
 
-// Whether a text spells a sound description.
-fn is_sound(alloc: Global, text: &String) -> Result<bool, AllocError>
-    ensures { IfOk result (λ sound. MatchBool sound (IsSoundText (string_bytes text.now)) (¬ IsSoundText (string_bytes text.now))) }
+// Whether the text spells the description, and that is sound.
+fn is_sound(alloc: Global, text: &String, desc: &Desc) -> Result<bool, AllocError>
+    requires { HasDialogsAlone desc.now }
+    ensures { IfOk result (λ sound. MatchBool sound (SpellsSound (string_bytes text.now) desc.now)
+        (¬ SpellsSound (string_bytes text.now) desc.now)) }
 {
     match parse(alloc, text.as_bytes()) {
-        Ok(desc) => has_no_faults(alloc, desc),
+        Ok(read) => is_sound_as(alloc, read, desc),
         Err(fault) => unread(fault),
+    }
+}
+
+// Whether what was read is the description, and sound. Two tildes of a label are read as a mark, so it may be another.
+fn is_sound_as(alloc: Global, read: Desc, desc: &Desc) -> Result<bool, AllocError>
+    requires spelled { CanBeSpelled read }
+    requires alone { HasDialogsAlone desc.now }
+    ensures { IfOk result (λ sound. MatchBool sound (IsSoundAs desc.now read) (¬ IsSoundAs desc.now read)) }
+{
+    if is_same(&read, desc) {
+        has_no_faults(alloc, read)
+    } else {
+        drop(read);
+        Ok(false)
     }
 }
 
@@ -124,7 +142,7 @@ fn desc_of_rows(alloc: Global, request: &Request, rows: &[Chars]) -> Result<Desc
     let body = body_rows(request, rows);
     let extent = Extent { columns, body };
     let views = box_views(alloc, request, rows, extent, buttons)?;
-    let dialog = box_dialog(alloc, request, extent, views)?;
+    let dialog = box_dialog(alloc, request, extent, on_lines(alloc, views)?)?;
     box_desc(alloc, extent, dialog)
 }
 
@@ -146,7 +164,7 @@ fn box_desc(alloc: Global, extent: Extent, dialog: Dialog) -> Result<Desc, Alloc
     })
 }
 
-// The dialog, below the row of a menu bar.
+// The dialog, below the row of a menu bar. Its own line is the fourth, below those of the version, the screen and the start.
 fn box_dialog(
     alloc: Global,
     request: &Request,
@@ -163,7 +181,10 @@ fn box_dialog(
         ends: ends_of(&request.kind),
     };
     Ok(Dialog {
-        node: view(0, 1, u16::from(extent.columns) + 4, Kind::Dialog(head)),
+        node: at_line(
+            4,
+            view(0, 1, u16::from(extent.columns) + 4, Kind::Dialog(head)),
+        ),
         views: Sequence::from_vec(views),
         rules: Sequence::new(alloc),
     })

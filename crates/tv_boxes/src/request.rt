@@ -82,7 +82,7 @@ pub struct Item {
     pub is_on: bool,
 }
 
-/// A field of a form. Rows and columns count from 1, from the row below the text.
+/// A field of a form. Rows and columns count from 1, rows from the one below the free row under the text.
 #[derive(Debug, Drop)]
 pub struct FormField {
     pub label: Chars,

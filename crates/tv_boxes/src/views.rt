@@ -13,7 +13,7 @@ use tv_lang::ascii;
 use tv_model::{CheckBoxes, Id, Input, Kind, ListBox, Node, RadioButtons, StaticText};
 use tv_valid::{Chars, DomainSpec, InputSpec, Sequence};
 
-/// Makes a view at a place. Its id is 0, since no text has it.
+/// Makes a view at a place, on no line yet.
 pub(crate) fn view(x: u16, y: u16, w: u16, kind: Kind) -> Node
     ensures { result ≡ view x y w kind }
 {
@@ -66,7 +66,7 @@ fn input_kind(alloc: Global, name: Chars, most: u8, start: &Chars) -> Result<Kin
     }))
 }
 
-/// Returns the rows of a list: as many as are wanted, or as there are items, but no more than 12.
+/// Returns the rows of a list: as many as are wanted; if that is 0, as there are items, but no more than 12.
 pub(crate) fn list_rows(choices: &Choices) -> u8
     ensures { result ≡ list_rows choices.now }
 {

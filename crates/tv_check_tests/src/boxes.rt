@@ -307,8 +307,20 @@ title 日
 msgbox
 ok O~K
 => a label has a tilde
+msgbox
+ok ~O~K
+=> a label has a tilde
+yesno
+no ~~N~o
+=> a label has a tilde
 checklist 0
 item a~ One
+=> an item has a tilde
+checklist 0
+item ~x~ One
+=> an item has a tilde
+radiolist 0
+item a One ~2~
 => an item has a tilde
 checklist 0
 => there is no item

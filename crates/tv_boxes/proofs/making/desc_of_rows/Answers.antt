@@ -12,5 +12,5 @@ returns c =
     let body = c.body_rows-body.result in
     let dialog = c.in_ok-dialog.dialog in
     let whole : box_desc columns body dialog ≡ desc_of_rows r rows =
-    described r rows columns body c.in_ok-views.views.items dialog c.columns_of-columns.ensures c.body_rows-body.ensures c.in_ok-views.ensures c.in_ok-dialog.ensures in
+    described r rows columns body c.in_ok-views.views.items c.in_ok-on_lines.field-0.items dialog c.columns_of-columns.ensures c.body_rows-body.ensures c.in_ok-views.ensures c.in_ok-on_lines.ensures c.in_ok-dialog.ensures in
     IfOk-weaker c.box_desc.result (λ desc. desc ≡ box_desc columns body dialog) (λ desc. desc ≡ desc_of_rows r rows) (λ desc e. e ∙ whole) c.box_desc.ensures
