@@ -118,7 +118,7 @@ impl fmt::Display for Room {
 
 fn room_needed(screen: &Screen) -> Line {
     let mut line = Line::new();
-    line.push_shown(Room {
+    let _ = line.push_shown(Room {
         columns: screen.width(),
         rows: screen.height(),
     });

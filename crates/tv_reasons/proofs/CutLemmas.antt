@@ -9,7 +9,9 @@ use Rattle.std.proofs.lemmas.List.Elements.{All-nil, All-cons, All-take, All-app
 use Rattle.tv_cells.specs.Glyph.{IsNarrow, is_narrow}
 use Rattle.tv_cells.proofs.NarrowLemmas.{ascii_narrow}
 use Rattle.tv_picture.proofs.LengthLemmas.{narrow_decides}
-use Rattle.tv_reasons.specs.Reasons.{printed, line_of, between}
+use Rattle.tv_valid.specs.declared.input.DomainSpec.{DomainSpec}
+use Rattle.tv_valid.specs.declared.input.DomainSpec.TheVariants as domains
+use Rattle.tv_reasons.specs.Reasons.{printed, line_of, between, first_words}
 
 -- ---- what is cut
 
@@ -50,6 +52,13 @@ three_parts name between words first second third a b c =
     ∙ ap (λ l. take 132 (l ++ q ++ r)) a ∙ ap (take 132) (append_assoc (take 132 p) q r) ∙ take_again 132 p (q ++ r)
     ∙ ap (take 132) (sym (map-append printed (name ++ between) words ∙ ap (λ l. l ++ r) (map-append printed name between) ∙ append_assoc p q r))
 
+-- a line to which one part more is added
+pub further_part : (text words line longer : List ℕ) → line ≡ line_of text → longer ≡ take 132 (line ++ map printed words)
+    → longer ≡ line_of (text ++ words)
+further_part text words line longer was is =
+    is ∙ ap (λ l. take 132 (l ++ map printed words)) was ∙ take_again 132 (map printed text) (map printed words)
+    ∙ ap (take 132) (sym (map-append printed text words))
+
 -- ---- what stands behind the name
 
 pub spelled_between : (is_hidden : Bool) → chars (between is_hidden) ≡ between is_hidden
@@ -57,9 +66,16 @@ unfolding chars
 spelled_between true = refl
 spelled_between false = refl
 
+pub spelled_first : (domain : DomainSpec) → chars (first_words domain) ≡ first_words domain
+unfolding chars
+spelled_first domains.Any = refl
+spelled_first (domains.Filter set) = refl
+spelled_first (domains.Range least greatest) = refl
+spelled_first (domains.Picture picture) = refl
+
 -- ---- what a terminal shows
 
-printed_narrow : (ch : ℕ) → IsNarrow (printed ch)
+pub printed_narrow : (ch : ℕ) → IsNarrow (printed ch)
 printed_narrow ch = cond_both (is_narrow ch) ch 63 IsNarrow (λ e. (narrow_decides ch).0 e) (λ e. ascii_narrow 63 (omega arith) (omega arith))
 
 all_printed : (chars : List ℕ) → All (λ ch. IsNarrow (printed ch)) chars

@@ -1,1 +1,2 @@
+pub mod AddedLemmas
 pub mod CutLemmas

@@ -1,9 +1,9 @@
 //! A line that a terminal shows below the screen.
 
-ghost use Rattle.std.specs.Prelude.{◌≡◌, ◌≤◌, ◌++◌, [], ◌∷◌, ℕ, List, All, length, map, take};
+ghost use Rattle.std.specs.Prelude.{◌≡◌, ◌≤◌, ◌++◌, [], ◌∷◌, ℕ, List, All, IfSome, OnOk, length, map, take};
 ghost use Rattle.std.specs.Str.{chars};
 ghost use Rattle.tv_cells.specs.Glyph.{IsNarrow};
-ghost use Rattle.tv_reasons.specs.Reasons.{printed};
+ghost use Rattle.tv_reasons.specs.Reasons.{IsAdded, printed};
 
 use arrayvec::ArrayVec;
 use std::fmt::{self, Write};
@@ -63,19 +63,25 @@ impl Line {
         push_str(&mut self.chars, more);
     }
 
-    /// Adds what the value writes, as far as there is room.
-    pub fn push_shown<D: fmt::Display + Drop>(&mut self, value: D)
-        ensures { (more : List ℕ) × (self.new ≡ take 132 (self.old ++ map printed more)) }
+    /// Adds what the value writes, as far as there is room: all that its `output` has, unless it fails.
+    pub fn push_shown<D: fmt::Display + Drop>(&mut self, value: D) -> fmt::Result
+        ensures added { (more : List ℕ) × (self.new ≡ take 132 (self.old ++ map printed more)) }
+        ensures shown { OnOk result (IfSome (D.output value) (λ bytes. IsAdded self.old bytes self.new)) }
     {
-        // Written apart: no contract says that a value only adds to what a writer has.
+        // Written apart: no contract says that a value with no `output` only adds to what a writer has.
         let mut more = Line::new();
-        let _ = write!(more, "{value}");
+        let result = write!(more, "{value}");
         self.push_all(more.as_slice());
+        result
     }
 }
 
 /// A line takes all that is written, and keeps what there is room for.
 impl fmt::Write for Line {
+    ghost use Rattle.tv_reasons.specs.Reasons.{IsAdded};
+
+    ghost write_str_gives = { IsAdded };
+
     fn write_str(&mut self, text: &str) -> fmt::Result {
         self.push_str(text);
         Ok(())

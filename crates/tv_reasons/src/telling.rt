@@ -6,7 +6,7 @@ ghost use Rattle.tv_model.specs.Description.Nodes.{node_of};
 ghost use Rattle.tv_reasons.specs.Reasons.{IsReason, between};
 
 use crate::line::Line;
-use crate::wanted::Wanted;
+use crate::wanted::{Further, first_words};
 use tv_model::{Desc, Id, Kind};
 
 /// Says why the input of the id refuses a text: its name, as the log has it, and what it asks of its text. Of what is
@@ -23,7 +23,8 @@ pub fn reason(desc: &Desc, id: Id, is_hidden: bool) -> Line
     if let Kind::Input(input) = &node.kind {
         line.push_all(input.name.as_slice());
         line.push_str(between(is_hidden));
-        line.push_shown(Wanted(&input.spec));
+        line.push_str(first_words(&input.spec.domain));
+        let _ = line.push_shown(Further(&input.spec));
     }
     line
 }

@@ -1,5 +1,8 @@
 //! What an input takes, in words.
 
+ghost use Rattle.std.specs.Prelude.{◌≡◌};
+ghost use Rattle.tv_reasons.specs.Reasons.{first_words};
+
 use crate::line::printed;
 use std::fmt;
 use tv_valid::{DomainSpec, InputSpec};
@@ -13,23 +16,45 @@ pub struct Wanted<'a>(pub &'a InputSpec);
 impl<'a> fmt::Display for Wanted<'a> {
     fn fmt<W: fmt::Write>(&self, f: &mut fmt::Formatter<W>) -> fmt::Result {
         let spec = self.0;
-        let most = Most(spec.max);
+        let first = first_words(&spec.domain);
+        let further = Further(spec);
+        write!(f, "{first}{further}")
+    }
+}
+
+/// Returns the words that say first what an input of the domain takes.
+pub(crate) fn first_words(domain: &DomainSpec) -> &'static str
+    ensures { result.now ≡ first_words domain.now }
+{
+    match domain {
+        DomainSpec::Any | DomainSpec::Filter(_) => "at most ",
+        DomainSpec::Range { .. } => "a number from ",
+        DomainSpec::Picture(_) => "as ",
+    }
+}
+
+/// What an input takes, in the words behind the first.
+#[derive(Drop)]
+pub(crate) struct Further<'a>(pub &'a InputSpec);
+
+impl<'a> fmt::Display for Further<'a> {
+    fn fmt<W: fmt::Write>(&self, f: &mut fmt::Formatter<W>) -> fmt::Result {
+        let spec = self.0;
+        let count = Count(spec.max);
         match &spec.domain {
-            DomainSpec::Any => return write!(f, "{most}"),
+            DomainSpec::Any => return write!(f, "{count}"),
             DomainSpec::Filter(set) => {
                 let set = Set(set.as_slice());
-                return write!(f, "{most}, each of {set}");
+                return write!(f, "{count}, each of {set}");
             }
-            DomainSpec::Range { least, greatest } => {
-                write!(f, "a number from {least} to {greatest}")?;
-            }
+            DomainSpec::Range { least, greatest } => write!(f, "{least} to {greatest}")?,
             DomainSpec::Picture(picture) => {
                 let picture = Spelled(picture.as_slice());
-                write!(f, "as {picture}")?;
+                write!(f, "{picture}")?;
             }
         }
         if is_cut(spec) {
-            write!(f, ", in {most}")?;
+            write!(f, ", in at most {count}")?;
         }
         if spec.optional {
             write!(f, ", or nothing")?;
@@ -38,15 +63,15 @@ impl<'a> fmt::Display for Wanted<'a> {
     }
 }
 
-/// So many characters at most.
+/// So many characters.
 #[derive(Drop)]
-struct Most(i32);
+struct Count(i32);
 
-impl fmt::Display for Most {
+impl fmt::Display for Count {
     fn fmt<W: fmt::Write>(&self, f: &mut fmt::Formatter<W>) -> fmt::Result {
-        let max = self.0;
-        let ending = if max == 1 { "" } else { "s" };
-        write!(f, "at most {max} character{ending}")
+        let count = self.0;
+        let ending = if count == 1 { "" } else { "s" };
+        write!(f, "{count} character{ending}")
     }
 }
 
@@ -83,7 +108,8 @@ impl<'a> fmt::Display for Set<'a> {
     }
 }
 
-// Whether a number of the range, or a text of the picture, may be longer than what the input takes.
+// Whether a number of the range is longer than what the input takes; or whether the picture's spelling is, or repeats
+// something any number of times.
 fn is_cut(spec: &InputSpec) -> bool {
     match &spec.domain {
         DomainSpec::Any | DomainSpec::Filter(_) => false,
