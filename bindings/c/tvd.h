@@ -16,8 +16,8 @@ extern "C" {
  *
  * Each of the words, behind the program's name, ends with a NUL byte, the last one too. A file whose name is empty isn't there.
  * What tvdlg writes on standard output becomes the front of `out`, if it fits, and `*out_used` says how many bytes it has.
- * Where that is more than `out_size`, the room is as it was, and another call with more room gives the same. So it is with
- * `err` and what tvdlg writes on standard error.
+ * Where that is more than `out_size`, the room is as it was. So it is with `err` and what tvdlg writes on standard error.
+ * Another call with more room gives the same, which is only tested.
  *
  * What the library keeps is proved: `Tells` of crates/tvd/specs/Telling.antt, and that the call is safe and returns, whatever
  * bytes it is given. That rests on what its caller keeps, and nothing checks:
@@ -159,10 +159,10 @@ enum {
   TVD_FORM_REFUSED,   /* nothing can be made of what was asked */
   TVD_FORM_NO_MEMORY, /* there was no memory for it, and nothing has changed */
   TVD_FORM_NO_ROOM,   /* the room is too small for the text, and is as it was */
-  TVD_FORM_LEFT,      /* the user leaves, by Ctrl-\ or Ctrl-C */
+  TVD_FORM_LEFT,      /* the user leaves, by Ctrl-\ or Ctrl-C, unless a status item has the key */
   TVD_FORM_OVER,      /* as an event, but nothing can happen any more, except by a command of the program's own */
   TVD_FORM_UNSOUND,   /* no sound description was opened */
-  TVD_FORM_REFRESH    /* the whole screen is to be shown anew, as by Ctrl-L */
+  TVD_FORM_REFRESH    /* the whole screen is to be shown anew, as by Ctrl-L, unless a status item has the key */
 };
 
 /* A cell: the number of its character, the least byte first, and its colours: 4 bits of the character's, 3 behind it. */

@@ -21,7 +21,7 @@ pub struct Held {
 }
 
 impl Held {
-    /// Opens a description's text. Where it can't be opened each call says so.
+    /// Opens a description's text. Where it can't be opened, each call that asks for something says so.
     pub fn new(alloc: Global, text: &[u8]) -> Held
         ensures { (h : Holding) × IsHeld result h × Begins text.now h }
     {
