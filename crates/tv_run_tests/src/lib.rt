@@ -1,5 +1,6 @@
 //! Tests of runs over boxed controls of all seven kinds, made by a loop over the plan of a checked description, and of the
-//! dialogs and groups that such controls stand in.
+//! dialogs and groups that such controls stand in; of what a program of one's own draws and is told; and of what runs reach
+//! of a description, and what it is warned of.
 #![tactic(auto)]
 
 #[cfg(test)]
@@ -15,6 +16,8 @@ mod colours;
 #[cfg(test)]
 mod constructors;
 #[cfg(test)]
+mod cuts;
+#[cfg(test)]
 mod dragging;
 #[cfg(test)]
 mod examples;
@@ -22,6 +25,8 @@ mod examples;
 mod fitting;
 #[cfg(test)]
 mod going_on;
+#[cfg(test)]
+mod idle;
 #[cfg(test)]
 mod large;
 #[cfg(test)]
@@ -35,6 +40,8 @@ mod mismatches;
 #[cfg(test)]
 mod naming;
 #[cfg(test)]
+mod news;
+#[cfg(test)]
 mod opening;
 #[cfg(test)]
 mod pieces;
@@ -46,6 +53,8 @@ mod repainted;
 mod running;
 #[cfg(test)]
 mod runs;
+#[cfg(test)]
+mod sheets;
 #[cfg(test)]
 mod stepping;
 #[cfg(test)]
@@ -60,5 +69,9 @@ mod terminals;
 mod toolkit;
 #[cfg(test)]
 mod walks;
+#[cfg(test)]
+mod warnings;
+#[cfg(test)]
+mod ways;
 #[cfg(test)]
 mod writers;

@@ -1,5 +1,5 @@
 use Rattle.tv_app.specs.Running.{Runs, Session}
-use Rattle.tv_live_tests.proofs.sheets.expect_acts.Given as goal
+use Rattle.tv_run_tests.proofs.sheets.expect_acts.Given as goal
 
 -- the application stands for some run
 abbrev pub invariant-loop-place : goal.invariant-loop-place
