@@ -20,7 +20,7 @@ SECTION = ".tvdlg.build"
 NO_LICENCE = """\
 This package was made from the repository of tvdlg.
 
-No licence has been given for it yet. Who wants to use it, change it or pass it on has to ask its owner.
+No licence has been given for it yet. Whoever wants to use it, change it or pass it on has to ask its owner.
 """
 
 

@@ -159,7 +159,7 @@ enum {
   TVD_FORM_REFUSED,   /* nothing can be made of what was asked */
   TVD_FORM_NO_MEMORY, /* there was no memory for it, and nothing has changed */
   TVD_FORM_NO_ROOM,   /* the room is too small for the text, and is as it was */
-  TVD_FORM_LEFT,      /* the user leaves, by Ctrl-\ or Ctrl-C, unless a status item has the key */
+  TVD_FORM_LEFT,      /* the user leaves, by Ctrl-\, or by Ctrl-C unless a status item has that key */
   TVD_FORM_OVER,      /* as an event, but nothing can happen any more, except by a command of the program's own */
   TVD_FORM_UNSOUND,   /* no sound description was opened */
   TVD_FORM_REFRESH    /* the whole screen is to be shown anew, as by Ctrl-L, unless a status item has the key */
