@@ -3,10 +3,8 @@
 ghost use Rattle.std.specs.Prelude.{◌≡◌, IfOk, option_copied, find, position};
 ghost use Rattle.tv_answers.specs.ReadLogs.{end_taken, ended, ended_by, field_answered, field_in_block, field_taken, has_end, is_field_named, named_valued, nothing_read, other_taken, passed, with_misfit, words_answered};
 ghost use Rattle.tv_answers.specs.declared.misfit.MisfitKind.TheVariants.{NoDialog, NoEnd, NoField, NoValue};
-ghost use Rattle.tv_machine.specs.Safe.{is_field};
 ghost use Rattle.tv_model.specs.Description.Commands.{is_end};
 ghost use Rattle.tv_model.specs.Description.Heads.{dialog_head, is_named};
-ghost use Rattle.tv_model.specs.Description.Names.{gives_name};
 
 use crate::answers::Answers;
 use crate::field_values::value_for;
@@ -14,7 +12,8 @@ use crate::log_line::{command_in, is_passed, is_value};
 use crate::misfit::MisfitKind;
 use std::alloc::{AllocError, Global};
 use tv_event::Command;
-use tv_model::{Desc, Dialog, Ends, Kind, Node};
+use tv_machine::is_field;
+use tv_model::{Desc, Dialog, Ends, Node};
 use tv_valid::Chars;
 use tv_words::Word;
 
@@ -207,28 +206,10 @@ fn end(
     }
 }
 
-fn is_field(kind: &Kind) -> bool
-    ensures { result ≡ is_field kind.now }
-{
-    matches!(
-        kind,
-        Kind::Input(_) | Kind::CheckBoxes(_) | Kind::RadioButtons(_) | Kind::List(_)
-    )
-}
-
-fn gives_name(view: &Node, name: &Chars) -> bool
-    ensures { result ≡ gives_name name.now view.now }
-{
-    match view.kind.name() {
-        Some(own) => own.is(name),
-        None => false,
-    }
-}
-
 fn is_field_named(view: &Node, name: &Chars) -> bool
     ensures { result ≡ is_field_named name.now view.now }
 {
-    is_field(&view.kind) && gives_name(view, name)
+    is_field(&view.kind) && view.gives_name(name)
 }
 
 // The first field of the name.

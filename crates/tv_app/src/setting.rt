@@ -6,7 +6,7 @@ ghost use Rattle.tv_app.specs.declared.setting.Unset.TheVariants.{NoMemory};
 ghost use Rattle.tv_dialog.specs.Fields.{in_field_order};
 ghost use Rattle.tv_machine.specs.Dialog.Lawful.{IsLawfulDialog};
 ghost use Rattle.tv_machine.specs.Dialog.Sound.{HasSoundDialogs};
-ghost use Rattle.tv_machine.specs.Safe.{IsValueOf, is_field};
+ghost use Rattle.tv_machine.specs.Safe.{IsValueOf};
 ghost use Rattle.tv_model.specs.Controls.Contents.{is_item_place};
 ghost use Rattle.tv_valid.specs.Domain.{InDomain, IsDomain};
 ghost use Rattle.tv_valid.specs.declared.domain.Domain.{Domain as Asked};
@@ -14,6 +14,7 @@ ghost use Rattle.tv_valid.specs.declared.domain.Domain.{Domain as Asked};
 use crate::names::dialog_place;
 use std::alloc::{AllocError, Global};
 use thiserror::Error;
+use tv_machine::is_field;
 use tv_model::{Desc, Dialog, Kind, Node, Record, Value};
 use tv_valid::{Domain, DomainFault, InputSpec, Text};
 
@@ -85,15 +86,6 @@ fn may_save(alloc: Global, kind: &Kind, value: &Value) -> Result<bool, AllocErro
         (Kind::List(list), Value::Item(item)) => Ok(is_item(list.items.as_slice().len(), *item)),
         _ => Ok(false),
     }
-}
-
-fn is_field(kind: &Kind) -> bool
-    ensures { result ≡ is_field kind.now }
-{
-    matches!(
-        kind,
-        Kind::Input(_) | Kind::CheckBoxes(_) | Kind::RadioButtons(_) | Kind::List(_)
-    )
 }
 
 // Whether there is a value, with which a field of the kind may be saved.

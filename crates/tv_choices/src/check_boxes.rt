@@ -22,8 +22,8 @@ use bitflags::Flags;
 use std::alloc::Global;
 use tv_cells::{Canvas, Damage, Point, Rect, Screen, lay};
 use tv_event::{Event, Key, Options, Phase, State};
-use tv_faces::{ClusterFace, ClusterMarks, natural};
-use tv_model::{CheckBoxes as Declared, Id, Kind, Node, Record, Value};
+use tv_faces::{ClusterFace, ClusterMarks};
+use tv_model::{CheckBoxes as Declared, Id, Kind, Node, Record, Value, natural};
 use tv_view::{ControlFault, Env, LeafCore, Reaction, Rules, View, has_focus};
 
 /// Check boxes: any of their items are marked, and one is selected.

@@ -22,8 +22,8 @@ use bitflags::Flags;
 use std::alloc::Global;
 use tv_cells::{Canvas, Damage, Point, Rect, Screen, lay};
 use tv_event::{Event, Key, Options, Phase, State};
-use tv_faces::{ListFace, natural};
-use tv_model::{Id, Kind, ListBox as Declared, Node, Record, Value};
+use tv_faces::ListFace;
+use tv_model::{Id, Kind, ListBox as Declared, Node, Record, Value, natural};
 use tv_view::{ControlFault, Env, LeafCore, Reaction, Rules, View, contains, has_focus, row_of};
 
 /// A list: one of its items is chosen, and as many are shown as it has rows.

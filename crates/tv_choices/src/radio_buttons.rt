@@ -20,8 +20,8 @@ use bitflags::Flags;
 use std::alloc::Global;
 use tv_cells::{Canvas, Damage, Point, Rect, Screen, lay};
 use tv_event::{Event, Key, Options, Phase, State};
-use tv_faces::{ClusterFace, ClusterMarks, natural};
-use tv_model::{Id, Kind, Node, RadioButtons as Declared, Record, Value};
+use tv_faces::{ClusterFace, ClusterMarks};
+use tv_model::{Id, Kind, Node, RadioButtons as Declared, Record, Value, natural};
 use tv_view::{ControlFault, Env, LeafCore, Reaction, Rules, View, has_focus};
 
 /// Radio buttons: one of their items is marked, and that is the selected one.

@@ -24,8 +24,8 @@ use bitflags::Flags;
 use std::alloc::Global;
 use tv_cells::{Canvas, Damage, Point, Rect, Screen, lay};
 use tv_event::{Command, Event, Key, Options, Phase, State};
-use tv_faces::{ButtonFace, ButtonLook, natural};
-use tv_model::{Button as Declared, Id, Kind, Node, Record};
+use tv_faces::{ButtonFace, ButtonLook};
+use tv_model::{Button as Declared, Id, Kind, Node, Record, natural};
 use tv_view::{
     ControlFault, Env, LeafCore, Reaction, Rules, View, contains, has_focus, is_default_now,
 };

@@ -27,8 +27,8 @@ use bitflags::Flags;
 use std::alloc::Global;
 use tv_cells::{Canvas, Damage, Point, Rect, Screen, lay};
 use tv_event::{Event, Key, Options, Phase, State};
-use tv_faces::{InputColours, InputFace, first_shown, natural};
-use tv_model::{Id, Input as Declared, Kind, Node, Record, Value};
+use tv_faces::{InputColours, InputFace, first_shown};
+use tv_model::{Id, Input as Declared, Kind, Node, Record, Value, natural};
 use tv_valid::{Domain, DomainFault, InputSpec, Text};
 use tv_view::{ControlFault, Env, LeafCore, Reaction, Rules, View, column_of, has_focus};
 

@@ -14,8 +14,8 @@ ghost use Rattle.tv_dialog.specs.Head.{IsLimitedDialogHead, declared_dialog_head
 use std::marker::Model;
 use tv_cells::Rect;
 use tv_event::Command;
-use tv_faces::{Corner, Frame, FrameLook, natural};
-use tv_model::{Ends, Id, Kind, Node};
+use tv_faces::{Corner, Frame, FrameLook};
+use tv_model::{Ends, Id, Kind, Node, natural};
 use tv_palette::Owner;
 use tv_valid::Text;
 use tv_view::Env;

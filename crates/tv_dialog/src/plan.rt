@@ -3,8 +3,6 @@
 ghost use Rattle.std.specs.Prelude.{◌≡◌, ◌==◌, IfOk, Option, option_copied, find, filter_map, map, option_map};
 ghost use Rattle.std.specs.List.{list_any};
 ghost use Rattle.tv_model.specs.declared.node.Node.{Node};
-ghost use Rattle.tv_model.specs.Description.Names.{gives_name};
-ghost use Rattle.tv_model.specs.Description.Commands.{command_number};
 ghost use Rattle.tv_model.specs.Description.Nodes.{has_id, is_default};
 ghost use Rattle.tv_machine.specs.Leaves.{leaf_list};
 ghost use Rattle.tv_dialog.specs.Placing.{placed_node};
@@ -13,8 +11,7 @@ ghost use Rattle.tv_dialog.specs.Drawn.{default_now, lent};
 
 use crate::condition::Condition;
 use std::alloc::{AllocError, Global};
-use tv_faces::natural;
-use tv_model::{CommandSpec, Effect, Id, Kind, Node, Record, Rule, Sequence};
+use tv_model::{Effect, Id, Node, Record, Rule, Sequence, natural};
 use tv_valid::Chars;
 use tv_view::Env;
 
@@ -72,22 +69,13 @@ struct Placed<'a> {
     panes: &'a [&'a Node],
 }
 
-fn gives_name(name: &Chars, node: &Node) -> bool
-    ensures { result ≡ gives_name name.now node.now }
-{
-    match node.kind.name() {
-        Some(other) => other.is(name),
-        None => false,
-    }
-}
-
 // The first view that gives the name.
 fn meant(views: &[Node], name: &Chars) -> Option<Id>
     ensures { result ≡ meant_id views.now name.now }
 {
     views
         .iter()
-        .find(|view| gives_name(name, view))
+        .find(|view| view.gives_name(name))
         .map(|view| view.id)
 }
 
@@ -188,29 +176,13 @@ fn leaf_plans(
     Ok(leaves)
 }
 
-fn command_number(spec: &CommandSpec) -> u32
-    ensures { result ≡ command_number spec.now }
-{
-    match spec {
-        CommandSpec::Quit => 1,
-        CommandSpec::Menu => 3,
-        CommandSpec::Close => 4,
-        CommandSpec::Next => 7,
-        CommandSpec::Ok => 10,
-        CommandSpec::Cancel => 11,
-        CommandSpec::Yes => 12,
-        CommandSpec::No => 13,
-        CommandSpec::Number(number) => natural(number),
-    }
-}
-
 fn kept_gate(views: &[Node], rule: &Rule) -> Option<Gate>
     ensures { result ≡ gate_of views.now rule.now }
 {
     match &rule.effect {
         Effect::Show(_) => None,
         Effect::Enable(spec) => Some(Gate {
-            number: command_number(spec),
+            number: spec.number(),
             condition: kept_condition(views, rule),
         }),
     }
@@ -228,21 +200,12 @@ fn kept_gates(alloc: Global, views: &[Node], rules: &[Rule]) -> Result<Sequence<
     Ok(gates)
 }
 
-fn is_default(node: &Node) -> bool
-    ensures { result ≡ is_default node.now }
-{
-    match &node.kind {
-        Kind::Button(button) => button.is_default,
-        _ => false,
-    }
-}
-
 fn default_button(views: &[Node]) -> Option<Id>
     ensures { result ≡ option_map (λ view. view.id) (find is_default views.now) }
 {
     views
         .iter()
-        .find(|view| is_default(view))
+        .find(|view| view.is_default())
         .map(|view| view.id)
 }
 

@@ -8,7 +8,6 @@ ghost use Rattle.tv_explain.specs.Heads.{window_called, dialog_before, dialog_na
 
 use crate::why::{Reason, Why};
 use tv_model::{Desc, Dialog, Node, Window};
-use tv_names::gives_name;
 use tv_valid::Chars;
 
 /// Whether the first declaration gives a name, and the second one gives it too.
@@ -16,7 +15,7 @@ pub fn shares_name(node: &Node, other: &Node) -> bool
     ensures { result ≡ shares_name node.now other.now }
 {
     match node.kind.name() {
-        Some(name) => gives_name(name, other),
+        Some(name) => other.gives_name(name),
         None => false,
     }
 }
@@ -83,7 +82,7 @@ pub fn opening_why(before: &[Dialog], dialog: &Dialog) -> Why
 fn called(name: &Chars, windows: &[Window]) -> Option<u32>
     ensures { result ≡ window_called name.now windows.now }
 {
-    let window = windows.iter().find(|window| gives_name(name, &window.node));
+    let window = windows.iter().find(|window| window.node.gives_name(name));
     window.map(|window| window.node.id.0)
 }
 

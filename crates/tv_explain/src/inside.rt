@@ -4,13 +4,13 @@ ghost use Rattle.std.specs.Prelude.{◌≡◌, ℕ, IfOk, IsTrue, nat_eq, option
 ghost use Rattle.std.specs.HashSet as set;
 ghost use Rattle.std.specs.List.Sorted.{IsNonDecreasingBy};
 ghost use Rattle.tv_explain.specs.Inside.{in_frame, ruled};
-ghost use Rattle.tv_model.specs.Description.Sharing.{is_shared_by, sharing_rules};
+ghost use Rattle.tv_model.specs.Description.Sharing.{is_shared_by};
 
 use crate::lines::{Listed, are_in_order};
 use std::alloc::{AllocError, Global};
 use std::collections::HashSet;
 use std::marker::Model;
-use tv_faults::Line;
+use tv_faults::{Line, sharing_rules};
 use tv_model::{Dialog, Node, Rule, Version, Window};
 use tv_names::{Names, shared_letters};
 
@@ -103,16 +103,6 @@ impl<'a> Body<'a> {
         ensures { (letter : ℕ) → set.contains nat_eq result.now letter ≡ is_shared_by self.now.sharing self.now.views letter }
     {
         &self.shared
-    }
-}
-
-// The rules by which letters of the dialog may be shared: in version 1 there are none.
-fn sharing_rules(version: Version, dialog: &Dialog) -> Option<&[Rule]>
-    ensures { option_copied result ≡ sharing_rules version dialog.now.rules }
-{
-    match version {
-        Version::One => None,
-        Version::Two => Some(dialog.rules.as_slice()),
     }
 }
 

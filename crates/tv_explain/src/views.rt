@@ -36,20 +36,11 @@ fn linked_line(names: &Names, kind: &Kind) -> Option<u32>
     }
 }
 
-fn is_default(node: &Node) -> bool
-    ensures { result ≡ is_default node.now }
-{
-    match &node.kind {
-        Kind::Button(button) => button.is_default,
-        _ => false,
-    }
-}
-
 // The default button before.
 fn default_of(before: &[Node]) -> Option<&Node>
     ensures { option_copied result ≡ find is_default before.now }
 {
-    before.iter().find(|other| is_default(other))
+    before.iter().find(|other| other.is_default())
 }
 
 // Why a view has a fault that views alone can have.

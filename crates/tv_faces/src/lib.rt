@@ -25,5 +25,5 @@ pub use label::LabelFace;
 pub use list::ListFace;
 pub use look::{ButtonLook, FrameLook};
 pub use pieced_text::{PiecedFace, PiecedText};
-pub use place::{natural, rect_at};
+pub use place::rect_at;
 pub use static_text::TextFace;

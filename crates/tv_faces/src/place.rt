@@ -2,16 +2,8 @@
 
 ghost use Rattle.std.specs.Prelude.{◌≡◌, ◌<◌, ◌^◌, ◌+ℤ◌, ◌≤ℤ◌, ◌<ℤ◌, neg_ℤ, pos};
 ghost use Rattle.tv_model.specs.Description.Rectangles.{rect, IsSmallRect};
-ghost use Rattle.tv_model.specs.Description.Numbers.{natural};
 
 use tv_cells::{Point, Rect};
-
-/// Returns a number of columns or rows, 0 for one below it.
-pub fn natural(number: &i32) -> u32
-    ensures { result ≡ natural number.now }
-{
-    if *number < 0 { 0 } else { *number as u32 }
-}
 
 pub(crate) fn sum(a: &i32, b: &i32) -> i32
     requires low { neg_ℤ (pos (2 ^ 31)) ≤ℤ (a.now +ℤ b.now) }

@@ -1,21 +1,11 @@
 //! F11: second default buttons.
 
 ghost use Rattle.std.specs.Prelude.{◌≡◌, IfOk};
-ghost use Rattle.tv_model.specs.Description.Nodes.{is_default};
 ghost use Rattle.tv_model.specs.Faults.Starts.{is_second_default};
 ghost use Rattle.tv_model.specs.Faults.Each.{each_after};
 
 use std::alloc::{AllocError, Global};
-use tv_model::{Kind, Node};
-
-fn is_default(node: &Node) -> bool
-    ensures { result ≡ is_default node.now }
-{
-    match &node.kind {
-        Kind::Button(button) => button.is_default,
-        _ => false,
-    }
-}
+use tv_model::Node;
 
 /// Returns for each view whether it is a default button after another one.
 pub fn second_defaults(alloc: Global, views: &[Node]) -> Result<Vec<bool>, AllocError>
@@ -24,8 +14,8 @@ pub fn second_defaults(alloc: Global, views: &[Node]) -> Result<Vec<bool>, Alloc
     let mut has_default = false;
     let mut second = Vec::new(alloc);
     for view in views {
-        second.push(is_default(view) && has_default)?;
-        has_default |= is_default(view);
+        second.push(view.is_default() && has_default)?;
+        has_default |= view.is_default();
     }
     Ok(second)
 }

@@ -17,6 +17,7 @@ mod own;
 mod starts;
 mod wide;
 
+pub use bodies::sharing_rules;
 pub use line::Line;
 pub use list::faults;
 pub use numbers::{

@@ -13,7 +13,6 @@ ghost use Rattle.tv_faults.specs.Opened.{is_bad_opening};
 use std::alloc::{AllocError, Global};
 use std::collections::HashSet;
 use tv_model::{Desc, Dialog, Window};
-use tv_names::gives_name;
 use tv_valid::Chars;
 
 // Adds the dialog's opening command. Returns whether it is outside 100 to 255, or was among the commands before.
@@ -54,7 +53,7 @@ fn is_named(name: &Chars, dialog: &Dialog) -> bool
 fn has_window(name: &Chars, windows: &[Window]) -> bool
     ensures { result ≡ list_any (λ window. gives_name name.now window.node) windows.now }
 {
-    windows.iter().any(|window| gives_name(name, &window.node))
+    windows.iter().any(|window| window.node.gives_name(name))
 }
 
 fn has_dialog(name: &Chars, dialogs: &[Dialog]) -> bool

@@ -2,6 +2,8 @@
 //! in specs/. And what a script asks of it.
 #![tactic(auto)]
 
+mod field;
 mod script;
 
+pub use field::is_field;
 pub use script::Item;

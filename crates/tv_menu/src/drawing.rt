@@ -25,8 +25,7 @@ use crate::menus::menu_at;
 use crate::status_face::StatusFace;
 use tv_cells::{Canvas, Point, Rect, Screen, lay, lay_shadow};
 use tv_event::CommandSet;
-use tv_faces::natural;
-use tv_model::Menu;
+use tv_model::{Menu, natural};
 
 // The canvas, with its origin moved by the coordinates of a point.
 fn moved(canvas: Canvas, by: Point) -> Canvas

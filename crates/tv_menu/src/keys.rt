@@ -17,8 +17,7 @@ use crate::spot::has_column;
 use crate::titles::title_in_bar;
 use tv_cells::Point;
 use tv_event::Key;
-use tv_faces::natural;
-use tv_model::MenuItem;
+use tv_model::{MenuItem, natural};
 
 // The menu opens with its first item.
 fn opens(menu: Option<usize>) -> Effect

@@ -19,8 +19,8 @@ use crate::spot::{has_column, spot_in};
 use std::alloc::{AllocError, Global};
 use tv_cells::{Point, Rect};
 use tv_event::{CommandSet, Event, Key};
-use tv_faces::{natural, rect_at};
-use tv_model::{Desc, StatusItem};
+use tv_faces::rect_at;
+use tv_model::{Desc, StatusItem, natural};
 use tv_view::contains;
 
 fn copy_item(item: &StatusItem, alloc: Global) -> Result<StatusItem, AllocError>

@@ -10,6 +10,7 @@ mod items;
 mod kind;
 mod log;
 mod node;
+mod number;
 mod on_heap;
 mod record;
 
@@ -25,6 +26,7 @@ pub use kind::{
 };
 pub use log::LogLine;
 pub use node::{Id, Node};
+pub use number::natural;
 pub use on_heap::{OnHeap, empty_record};
 pub use record::{Entry, Record, Value};
 pub use tv_valid::Sequence;

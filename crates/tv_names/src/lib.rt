@@ -22,7 +22,7 @@ pub use labels::unlinked_labels;
 pub use letters::{marked_of, marks};
 pub use marked::marks_again;
 pub use menus::{items_again, numbered_again, titled_again};
-pub use names::{Names, gives_name};
+pub use names::Names;
 pub use sharing::{Sharing, shared_letters};
 pub use showing::show_themselves;
 pub use unknown::unknown_names;

@@ -2,7 +2,7 @@
 
 ghost use Rattle.std.specs.Prelude.{◌≡◌, ℕ, List, Some, None, MatchOption, IfOk, option_copied, bytes_eq, if◌then◌else◌};
 ghost use Rattle.std.specs.Option.{option_or};
-ghost use Rattle.tv_model.specs.Description.Names.{gives_name, meant};
+ghost use Rattle.tv_model.specs.Description.Names.{meant};
 ghost use Rattle.tv_names.specs.Named.{ArePlacesOf, IsFirstAt, first_given, place_in};
 
 use std::alloc::{AllocError, Global};
@@ -10,16 +10,6 @@ use std::collections::HashMap;
 use std::marker::Model;
 use tv_model::Node;
 use tv_valid::Chars;
-
-/// Whether the declaration gives the name.
-pub fn gives_name(name: &Chars, node: &Node) -> bool
-    ensures { result ≡ gives_name name.now node.now }
-{
-    match node.kind.name() {
-        Some(other) => other.is(name),
-        None => false,
-    }
-}
 
 /// Views and the names that they give, each with the place of the first view that gives it. Contracts see the views.
 #[derive(Drop)]

@@ -12,11 +12,10 @@ ghost use Rattle.tv_reach.specs.Never.{Blocks, IsNeverFree, starts_invalid};
 ghost use Rattle.tv_reach.specs.Runs.{IsNeverShown};
 ghost use Rattle.tv_reach.specs.Shown.{IsMaskOf};
 
-use crate::choices::natural;
 use crate::mask::Mask;
 use crate::shown::ShownLeaf;
 use std::alloc::{AllocError, Global};
-use tv_model::{CommandSpec, Desc, Dialog, Effect, Id, Input, Kind, Node, Rule};
+use tv_model::{Desc, Dialog, Effect, Id, Input, Kind, Node, Rule};
 use tv_valid::{Domain, DomainFault, Text};
 
 /// A dialog of a description, its leaves, and masks of its rules.
@@ -40,30 +39,13 @@ fn is_in_none(masks: &[Mask], rules: Mask) -> bool
     true
 }
 
-/// Returns the number of the command that is named.
-pub(crate) fn number_of(command: &CommandSpec) -> u32
-    ensures { result ≡ command_number command.now }
-{
-    match command {
-        CommandSpec::Quit => 1,
-        CommandSpec::Menu => 3,
-        CommandSpec::Close => 4,
-        CommandSpec::Next => 7,
-        CommandSpec::Ok => 10,
-        CommandSpec::Cancel => 11,
-        CommandSpec::Yes => 12,
-        CommandSpec::No => 13,
-        CommandSpec::Number(number) => natural(number),
-    }
-}
-
 // Whether the rule enables the command of the number.
 fn is_enabling(rule: &Rule, number: u32) -> bool
     ensures { result ≡ enables number rule.now.effect }
 {
     match &rule.effect {
         Effect::Show(_) => false,
-        Effect::Enable(command) => number_of(command) == number,
+        Effect::Enable(command) => command.number() == number,
     }
 }
 
@@ -87,7 +69,7 @@ fn own_enabling_rules(rules: &[Rule], node: &Node) -> Mask
     ensures { (k : ℕ) → HasRule result k → HasRuleFor rules.now (command_of node.now.kind) k }
 {
     match &node.kind {
-        Kind::Button(button) => enabling_rules(rules, number_of(&button.command)),
+        Kind::Button(button) => enabling_rules(rules, button.command.number()),
         _ => Mask::NONE,
     }
 }

@@ -3,7 +3,6 @@
 ghost use Rattle.std.specs.Prelude.{◌≡◌, ◌≤◌, ◌&&◌, length, Some};
 ghost use Rattle.tv_model.specs.declared.record.Value.TheVariants as values;
 ghost use Rattle.tv_model.specs.Description.Names.{meant};
-ghost use Rattle.tv_model.specs.Description.Numbers.{natural};
 ghost use Rattle.tv_model.specs.Kinds.Cluster.{is_marked, marks_of};
 ghost use Rattle.tv_machine.specs.Controls.Declared.{declared_value};
 ghost use Rattle.tv_reach.specs.Marks.{is_view};
@@ -11,15 +10,8 @@ ghost use Rattle.tv_reach.specs.Masks.{may_hold};
 ghost use Rattle.tv_reach.specs.Shown.{IsMaskOf, is_own_in, starts_in};
 
 use crate::mask::Mask;
-use tv_model::{CheckBoxes, Kind, Node, Rule};
+use tv_model::{CheckBoxes, Kind, Node, Rule, natural};
 use tv_names::Names;
-
-/// Returns the number, 0 for one below it.
-pub(crate) fn natural(number: &i32) -> u32
-    ensures { result ≡ natural number.now }
-{
-    if *number < 0 { 0 } else { *number as u32 }
-}
 
 /// Whether the rule asks for a mark of the view.
 pub(crate) fn is_own(names: &Names, node: &Node, rule: &Rule) -> bool

@@ -4,11 +4,11 @@ ghost use Rattle.std.specs.Prelude.{◌≡◌, ◌≤◌, length, All, Any, IfOk
 ghost use Rattle.tv_reach.specs.Masks.{IsClosed};
 ghost use Rattle.tv_reach.specs.Shown.{AreClosed, HasStarting, IsLeafFollowed, IsMoved, IsPart, IsRuleFollowed};
 
-use crate::choices::{chosen_rules, is_own, natural, own_rules, starting_rules};
+use crate::choices::{chosen_rules, is_own, own_rules, starting_rules};
 use crate::mask::Mask;
 use crate::shown::{ShownLeaf, shown_leaves};
 use std::alloc::{AllocError, Global};
-use tv_model::{Dialog, Rule};
+use tv_model::{Dialog, Rule, natural};
 use tv_names::Names;
 
 // Whether one of the masks has all rules of this one.

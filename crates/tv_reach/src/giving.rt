@@ -2,12 +2,11 @@
 
 ghost use Rattle.std.specs.Prelude.{◌≡◌, ◌↔◌, Some, IsTrue, option_map, Any};
 ghost use Rattle.tv_model.specs.Description.Commands.{command_number, command_of};
-ghost use Rattle.tv_model.specs.Description.Nodes.{is_default};
 ghost use Rattle.tv_machine.specs.Leaves.{PlacedNode, leaf_list};
 ghost use Rattle.tv_reach.specs.Found.{AreGivers, IsCase, IsLeafOf};
 ghost use Rattle.tv_reach.specs.Never.{HasNoGiver, IsFieldIn, IsNeverGiven, MayGive, MayPress, MayShowField};
 
-use crate::case::{Case, enabling_rules, number_of};
+use crate::case::{Case, enabling_rules};
 use crate::mask::Mask;
 use crate::shown::ShownLeaf;
 use tv_event::Command;
@@ -30,17 +29,7 @@ fn gives(node: &Node, number: u32) -> bool
     ensures { IsTrue result ↔ (option_map command_number (command_of node.now.kind) ≡ Some number) }
 {
     match &node.kind {
-        Kind::Button(button) => number_of(&button.command) == number,
-        _ => false,
-    }
-}
-
-// Whether the view is a button that is declared to be the default.
-fn is_default(node: &Node) -> bool
-    ensures { result ≡ is_default node.now }
-{
-    match &node.kind {
-        Kind::Button(button) => button.is_default,
+        Kind::Button(button) => button.command.number() == number,
         _ => false,
     }
 }
@@ -49,7 +38,7 @@ fn is_default(node: &Node) -> bool
 fn has_status(items: &[StatusItem], number: u32) -> bool
     ensures { Any (λ item. command_number item.command ≡ number) items.now → IsTrue result }
 {
-    items.iter().any(|item| number_of(&item.command) == number)
+    items.iter().any(|item| item.command.number() == number)
 }
 
 // Whether by the mask the leaf may be shown, and is a control but no button.
@@ -79,7 +68,7 @@ fn is_pressed(leaf: &ShownLeaf, number: u32, mask: Mask, shows_field: bool) -> b
         → (MayShowField case.dialog.now mask → IsTrue shows_field) → MayPress case.dialog.now number mask placed → IsTrue result }
 {
     gives(leaf.node, number)
-        && (mask.contains_all(leaf.shown_by) || (is_default(leaf.node) && shows_field))
+        && (mask.contains_all(leaf.shown_by) || (leaf.node.is_default() && shows_field))
 }
 
 // Whether by the mask one of the leaves may be pressed for the command, where that is enabled.

@@ -7,7 +7,7 @@ ghost use Rattle.tv_reach.specs.Never.{IsNeverOpened, IsReason, opens_by, starts
 ghost use Rattle.tv_reach.specs.declared.goal.Goal.TheVariants.{Ends};
 
 use crate::answer::Reason;
-use crate::case::{Case, are_never_free, are_never_shown, blocking, number_of};
+use crate::case::{Case, are_never_free, are_never_shown, blocking};
 use crate::giving::{givers_of, is_never_given, is_without_giver};
 use crate::goal::Goal;
 use crate::mask::Mask;
@@ -32,7 +32,7 @@ fn opens_by(dialog: &Dialog, command: &CommandSpec) -> bool
     ensures { result ≡ opens_by dialog.now command.now }
 {
     match dialog.head().opens {
-        Some(number) => i64::from(number) == i64::from(number_of(command)),
+        Some(number) => i64::from(number) == i64::from(command.number()),
         None => false,
     }
 }

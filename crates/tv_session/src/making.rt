@@ -25,10 +25,9 @@ use std::alloc::{AllocError, Global};
 use tv_cells::{Damage, Screen, ScreenFault};
 use tv_check::Checked;
 use tv_dialogs::DialogsOf;
-use tv_faces::natural;
 use tv_group::GroupOf;
 use tv_menu::{MenuBar, StatusLine};
-use tv_model::{Desc, Dialog};
+use tv_model::{Desc, Dialog, natural};
 use tv_view::View;
 use tv_window::{DeskOf, WindowOf};
 

@@ -21,9 +21,9 @@ ghost use Rattle.tv_session.specs.Showing.{standing_layers};
 use crate::run::RunOf;
 use tv_cells::{Canvas, Damage, Face, Point, Rect, Screen, lay};
 use tv_event::CommandSet;
-use tv_faces::{Background, natural};
+use tv_faces::Background;
 use tv_menu::StatusLine;
-use tv_model::Desc;
+use tv_model::{Desc, natural};
 use tv_palette::Owner;
 use tv_view::{Env, View};
 

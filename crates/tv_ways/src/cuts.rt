@@ -7,8 +7,7 @@ ghost use Rattle.tv_model.specs.Screen.Faces.{pieces_of};
 ghost use Rattle.tv_ways.specs.Cuts.{are_pieces_cut, character_lost, cut_if, cuts_of, cuts_of_items, cuts_of_kind, cuts_of_marked, cuts_of_node, cuts_of_rows, is_cut, is_letter_cut, letter_lost};
 
 use std::alloc::{AllocError, Global};
-use tv_faces::natural;
-use tv_model::{Desc, Dialog, Id, Kind, MarkedText, Node, Sequence, Window};
+use tv_model::{Desc, Dialog, Id, Kind, MarkedText, Node, Sequence, Window, natural};
 use tv_valid::Chars;
 
 /// What of a text is never shown.

@@ -5,7 +5,7 @@ ghost use Rattle.std.specs.Prelude.{◌≡◌, IfOk};
 use std::alloc::{AllocError, Global};
 use tv_event::Command;
 use tv_model::{CommandSpec, Dialog, Effect, Id, Input, Kind, MarkedText, Node, Rule};
-use tv_names::{gives_name, marked_of};
+use tv_names::marked_of;
 use tv_reach::Mask;
 use tv_valid::Chars;
 
@@ -254,7 +254,7 @@ fn means(dialog: &Dialog, name: &Chars, node: &Node) -> bool {
         .views
         .as_slice()
         .iter()
-        .find(|view| gives_name(name, view));
+        .find(|view| view.gives_name(name));
     match meant {
         Some(view) => view.id == node.id,
         None => false,

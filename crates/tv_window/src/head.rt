@@ -12,8 +12,8 @@ ghost use Rattle.tv_window.specs.Head.{IsLimitedWindowHead, declared_window_head
 
 use std::marker::Model;
 use tv_cells::Rect;
-use tv_faces::{Corner, Frame, FrameLook, natural};
-use tv_model::{Id, Kind, Node};
+use tv_faces::{Corner, Frame, FrameLook};
+use tv_model::{Id, Kind, Node, natural};
 use tv_palette::Owner;
 use tv_valid::Text;
 use tv_view::Env;
