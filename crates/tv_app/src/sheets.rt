@@ -5,10 +5,8 @@ ghost use Rattle.tv_app.specs.Running.{Runs};
 ghost use Rattle.tv_app.specs.Sheets.{IsLaidFrom, IsOpenNamed, IsSheetFor, is_front_named, place_named};
 ghost use Rattle.tv_cells.specs.Damage.{Holds};
 ghost use Rattle.tv_cells.specs.Layers.{Shows};
-ghost use Rattle.tv_cells.specs.Rectangle.{IsRectNear};
 ghost use Rattle.tv_cells.specs.Repainting.{KeepsRest};
 ghost use Rattle.tv_machine.specs.Run.{Session};
-ghost use Rattle.tv_machine.specs.Screen.Bars.{without_edge};
 ghost use Rattle.tv_machine.specs.Screen.Bodies.{whole_screen};
 ghost use Rattle.tv_app.specs.declared.sheets.LayFault.TheVariants.{NoMemory, NotOpen};
 
@@ -16,8 +14,9 @@ use crate::app::App;
 use crate::names::named_id;
 use std::alloc::{AllocError, Global};
 use thiserror::Error;
-use tv_cells::{Point, Rect, Screen};
+use tv_cells::{Rect, Screen};
 use tv_model::Id;
+use tv_view::without_edge;
 
 /// Why no sheet was made or laid.
 #[derive(Clone, Copy, Debug, Drop, PartialEq, Eq, Error)]
@@ -33,17 +32,6 @@ impl From<AllocError> for LayFault {
 
     fn from(_error: AllocError) -> LayFault {
         LayFault::NoMemory
-    }
-}
-
-// The rectangle without the frame around it.
-fn without_edge(rect: Rect) -> Rect
-    requires { IsRectNear rect }
-    ensures { result ≡ without_edge rect }
-{
-    Rect {
-        a: rect.a.shift(Point { x: 1, y: 1 }),
-        b: rect.b.shift(Point { x: -1, y: -1 }),
     }
 }
 

@@ -9,7 +9,7 @@ ghost use Rattle.tv_model.specs.declared.desc.Dialog.{Dialog};
 ghost use Rattle.tv_machine.specs.Dialog.Lawful.{IsLawfulDialog};
 ghost use Rattle.tv_machine.specs.Dialog.Modal.{Modal};
 ghost use Rattle.tv_machine.specs.State.{LeafState};
-ghost use Rattle.tv_group.specs.Handling.{group_after, group_answer, is_pass};
+ghost use Rattle.tv_group.specs.Handling.{group_after, group_answer};
 ghost use Rattle.tv_group.specs.Opened.{opened};
 ghost use Rattle.tv_machine.specs.Dialog.Alike.{HoldSame};
 ghost use Rattle.tv_group.specs.Ready.{KeepsMarks};
@@ -23,16 +23,9 @@ use crate::dialog::DialogOf;
 use crate::log::note;
 use tv_cells::Damage;
 use tv_event::{Event, Key, Phase};
-use tv_group::GroupOf;
+use tv_group::{GroupOf, is_pass};
 use tv_model::LogLine;
 use tv_view::{Env, Reaction, View};
-
-// Whether the event was not consumed.
-fn is_pass(reaction: &Reaction) -> bool
-    ensures { result ≡ is_pass reaction.now }
-{
-    matches!(reaction, Reaction::Pass)
-}
 
 // Whether a key may call a view that marks a letter: with Alt before the current view has its turn, and by itself after
 // that. The current view may take any key.

@@ -5,13 +5,13 @@ ghost use Rattle.std.specs.HashSet as set;
 ghost use Rattle.std.specs.Option.{option_map};
 ghost use Rattle.std.specs.List.{list_any};
 ghost use Rattle.tv_model.specs.Description.Letters.{marked_of};
-ghost use Rattle.tv_model.specs.Description.Marks.{marks_any, shares_letter};
+ghost use Rattle.tv_model.specs.Description.Marks.{shares_letter};
 ghost use Rattle.tv_explain.specs.Letters.{item_line, item_why, is_given, letter_line, first_marking, first_marker, title_line, title_why};
 
 use crate::why::{Reason, Why};
 use std::collections::HashSet;
 use tv_model::{MarkedText, Menu, MenuItem, Node};
-use tv_names::marked_of;
+use tv_names::{marked_of, marks_any};
 
 // Whether the first text marks a letter, and the second one marks it too.
 fn shares_letter(text: &MarkedText, other: &MarkedText) -> bool
@@ -65,23 +65,13 @@ fn is_given(before: &[Node], earlier: &[MarkedText], text: &MarkedText) -> bool
     is_marked_by(before, text) || is_marked_in(text, earlier)
 }
 
-// Whether the text's letter is one of those that views share lawfully.
-fn is_shared(shared: &HashSet<char>, text: &MarkedText) -> bool
-    ensures { result ≡ marks_any (set.contains nat_eq shared.now) text.now }
-{
-    match text.letter() {
-        Some(letter) => shared.contains(&letter),
-        None => false,
-    }
-}
-
 /// Finds the line that first marked a letter which the view marks again, where these letters may be shared.
 pub fn letter_line(shared: &HashSet<char>, before: &[Node], node: &Node) -> Option<u32>
     ensures { result ≡ letter_line (set.contains nat_eq shared.now) before.now node.now }
 {
     let texts = marked_of(&node.kind);
     for (i, text) in texts.iter().enumerate() {
-        if is_given(before, &texts[..i], text) && !is_shared(shared, text) {
+        if is_given(before, &texts[..i], text) && !marks_any(shared, text) {
             return Some(marked_first(before, node.id.0, text));
         }
     }

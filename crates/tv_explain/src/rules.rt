@@ -3,8 +3,8 @@
 ghost use Rattle.std.specs.Prelude.{◌≡◌, ◌<◌, ℕ, length, position, slice_index_or, take, IfOk, option_copied};
 ghost use Rattle.tv_model.specs.declared.node.Node.{Node as SeenNode};
 ghost use Rattle.tv_model.specs.Description.Commands.{is_button_of};
-ghost use Rattle.tv_model.specs.Description.Nodes.{is_cluster, is_control};
-ghost use Rattle.tv_model.specs.Description.Rules.{has_target, reaches};
+ghost use Rattle.tv_model.specs.Description.Nodes.{is_control};
+ghost use Rattle.tv_model.specs.Description.Rules.{reaches};
 ghost use Rattle.tv_overlaps.specs.Standing.{AreOwners};
 ghost use Rattle.tv_explain.specs.Rules.{cluster_why, focus_of, focus_why, reaching_line, shown_why, unknown_why};
 
@@ -12,27 +12,8 @@ use crate::lines::line_of;
 use crate::why::{Reason, Why};
 use std::alloc::{AllocError, Global};
 use tv_model::{CommandSpec, Dialog, Effect, Kind, Node, Rule};
-use tv_names::Names;
+use tv_names::{Names, has_target, is_cluster};
 use tv_overlaps::{owners, stands_over};
-
-fn is_cluster(kind: &Kind) -> bool
-    ensures { result ≡ is_cluster kind.now }
-{
-    matches!(kind, Kind::CheckBoxes(_) | Kind::RadioButtons(_))
-}
-
-// Whether what is shown is a control or a pane.
-fn has_target(views: &Names, effect: &Effect) -> bool
-    ensures { result ≡ has_target views.now effect.now }
-{
-    match effect {
-        Effect::Show(name) => match views.meant(name) {
-            Some(node) => node.kind.is_control() || node.kind.is_pane(),
-            None => false,
-        },
-        Effect::Enable(_) => true,
-    }
-}
 
 fn cluster_why(found: Option<&Node>) -> Why
     ensures { result ≡ cluster_why (option_copied found.entry) }

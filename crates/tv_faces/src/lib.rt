@@ -26,4 +26,5 @@ pub use list::ListFace;
 pub use look::{ButtonLook, FrameLook};
 pub use pieced_text::{PiecedFace, PiecedText};
 pub use place::rect_at;
+pub use row::char_after_space;
 pub use static_text::TextFace;

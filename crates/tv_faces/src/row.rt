@@ -18,7 +18,7 @@ pub(crate) fn text_char(text: &[char], x: usize) -> char
 }
 
 /// Returns the character in a column of a space and then a text.
-pub(crate) fn char_after_space(text: &[char], x: usize) -> char
+pub fn char_after_space(text: &[char], x: usize) -> char
     ensures { result ≡ text_row (32 ∷ text.now) x }
 {
     if x == 0 { ' ' } else { text_char(text, x - 1) }

@@ -16,7 +16,8 @@ use tv_cells::{Damage, Point, Rect};
 use tv_event::{Event, Options, Phase, State};
 use tv_view::{Env, Reaction, View};
 
-fn is_pass(reaction: &Reaction) -> bool
+/// Whether the event was not consumed.
+pub fn is_pass(reaction: &Reaction) -> bool
     ensures { result ≡ is_pass reaction.now }
 {
     matches!(reaction, Reaction::Pass)

@@ -16,4 +16,5 @@ mod values;
 
 pub use focus::{Advanced, Dir};
 pub use group::{Group, GroupOf, Member, MemberOf, TooDeep};
+pub use handle::is_pass;
 pub use stack::Stack;

@@ -3,7 +3,7 @@
 ghost use Rattle.std.specs.Prelude.{◌≡◌, ◌≤◌, All, fold, length, map, max, option_map, pos, ◌-ℤ◌};
 ghost use Rattle.tv_cells.specs.Rectangle.{IsRectNear};
 ghost use Rattle.tv_cells.specs.Layers.{is_in};
-ghost use Rattle.tv_machine.specs.Screen.Bars.{box_height, box_of, box_width, menu_item_text, item_under, title_column, without_edge};
+ghost use Rattle.tv_machine.specs.Screen.Bars.{box_height, box_of, box_width, menu_item_text, item_under, title_column};
 ghost use Rattle.tv_model.specs.declared.desc.Desc.{Desc as Declared};
 ghost use Rattle.tv_model.specs.Description.Numbers.{IsBetween, natural};
 ghost use Rattle.tv_model.specs.Description.Rectangles.{desktop, rect};
@@ -16,7 +16,7 @@ use crate::titles::columns_before;
 use tv_cells::{Point, Rect};
 use tv_faces::rect_at;
 use tv_model::{Menu, MenuItem};
-use tv_view::contains;
+use tv_view::{contains, without_edge};
 
 fn text_columns(item: &MenuItem) -> usize
     requires { IsLawfulItem item.now }
@@ -72,16 +72,6 @@ fn below_bar(column: &i32, width: u32, height: u32) -> Rect
             x: *column + width as i32,
             y: 1 + height as i32,
         },
-    }
-}
-
-fn without_edge(rect: Rect) -> Rect
-    requires { IsRectNear rect }
-    ensures { result ≡ without_edge rect }
-{
-    Rect {
-        a: rect.a.shift(Point { x: 1, y: 1 }),
-        b: rect.b.shift(Point { x: -1, y: -1 }),
     }
 }
 

@@ -1,12 +1,12 @@
 //! A text after a space, in the row of a face.
 
-ghost use Rattle.std.specs.Prelude.{◌≡◌, ◌+◌, ◌∷◌, ◌<◌, ◌≤◌, ◌^◌, ℕ, length};
+ghost use Rattle.std.specs.Prelude.{◌≡◌, ◌+◌, ◌<◌, ◌≤◌, ◌^◌, ℕ, length};
 ghost use Rattle.tv_machine.specs.Screen.Bars.{columns_of, marked_cell};
 ghost use Rattle.tv_model.specs.Controls.Look.{is_mark_from};
-ghost use Rattle.tv_model.specs.Screen.Faces.{text_row};
 
 use crate::colours::bar_colour;
 use tv_cells::Cell;
+use tv_faces::char_after_space;
 use tv_model::MarkedText;
 
 /// A text with a space before it and spaces behind it, and its marked letter in a colour of its own.
@@ -17,19 +17,6 @@ pub(crate) struct SpacedText<'a> {
     pub(crate) mark: Option<usize>,
     pub(crate) rest: u8,
     pub(crate) letter: u8,
-}
-
-// A space, and then the characters of a text.
-fn char_after_space(text: &[char], column: usize) -> char
-    ensures { result ≡ text_row (32 ∷ text.now) column }
-{
-    if column == 0 {
-        return ' ';
-    }
-    match text.get(column - 1) {
-        Some(ch) => *ch,
-        None => ' ',
-    }
 }
 
 // Whether the column shows the marked letter of a text behind a space.

@@ -12,7 +12,8 @@ use std::alloc::{AllocError, Global};
 use tv_model::{Dialog, Effect, Kind, Rule};
 use tv_overlaps::{owners, stands_over};
 
-fn is_cluster(kind: &Kind) -> bool
+/// Whether rules may ask for the marks of a control of the kind.
+pub fn is_cluster(kind: &Kind) -> bool
     ensures { result ≡ is_cluster kind.now }
 {
     matches!(kind, Kind::CheckBoxes(_) | Kind::RadioButtons(_))

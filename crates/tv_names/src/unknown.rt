@@ -20,8 +20,8 @@ fn cluster_items(node: Option<&Node>) -> usize
     }
 }
 
-// Whether the rule shows a control or a pane, where it shows anything.
-fn has_target(names: &Names, effect: &Effect) -> bool
+/// Whether the rule shows a control or a pane, where it shows anything.
+pub fn has_target(names: &Names, effect: &Effect) -> bool
     ensures { result ≡ has_target names.now effect.now }
 {
     match effect {

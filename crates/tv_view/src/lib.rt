@@ -13,6 +13,6 @@ pub use env::{Env, Rules};
 pub use fault::ControlFault;
 pub use leaf_core::LeafCore;
 pub use looks::{has_focus, has_same_colours, is_default_now};
-pub use points::{column_of, contains, row_of};
+pub use points::{column_of, contains, row_of, without_edge};
 pub use reaction::Reaction;
 pub use view::View;

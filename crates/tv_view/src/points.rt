@@ -3,6 +3,8 @@
 ghost use Rattle.std.specs.Prelude.{◌≡◌};
 ghost use Rattle.std.specs.Int.{int_gap};
 ghost use Rattle.tv_cells.specs.Layers.{is_in};
+ghost use Rattle.tv_cells.specs.Rectangle.{IsRectNear};
+ghost use Rattle.tv_machine.specs.Screen.Bars.{without_edge};
 
 use tv_cells::{Point, Rect};
 
@@ -11,6 +13,17 @@ pub fn contains(rect: Rect, point: Point) -> bool
     ensures { result ≡ is_in rect point.x point.y }
 {
     rect.contains(point)
+}
+
+/// Returns a rectangle without the frame around it.
+pub fn without_edge(rect: Rect) -> Rect
+    requires { IsRectNear rect }
+    ensures { result ≡ without_edge rect }
+{
+    Rect {
+        a: rect.a.shift(Point { x: 1, y: 1 }),
+        b: rect.b.shift(Point { x: -1, y: -1 }),
+    }
 }
 
 fn gap(from: &i32, to: &i32) -> u32
