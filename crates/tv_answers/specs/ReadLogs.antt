@@ -179,6 +179,11 @@ answers_of d lines = option_map (λ p. p.answers) (lines_answered d 1 (nothing_r
 abbrev pub answers_in : Desc → List ℕ → Option Answers
 answers_in d text = answers_of d (lines_of text)
 
+-- a log that isn't too long answers so
+pub record IsAnswered (d : Desc) (text : List ℕ) (a : Answers) : Type 0 where
+  pub within : length text ≤ 1048576
+  pub answered : answers_in d text ≡ Some a
+
 -- the first line that is none of a log where it stands: those before it are
 pub record IsFirstUnread (d : Desc) (lines : List (List ℕ)) (line : ℕ) : Type 0 where
   pub before : ℕ

@@ -2,7 +2,7 @@
 
 ghost use Rattle.std.specs.Prelude.{◌≡◌, ◌↔◌, ◌<◌, ◌≤◌, IfErr, IfOk, Err, Some, length};
 ghost use Rattle.tv_answers.specs.Filling.{HaveSpelledValues};
-ghost use Rattle.tv_answers.specs.ReadLogs.{RefusesAnswers, answers_in, line_answered};
+ghost use Rattle.tv_answers.specs.ReadLogs.{IsAnswered, RefusesAnswers, line_answered};
 ghost use Rattle.tv_answers.specs.Outcomes.{RefusesLine, StopsAt, Value, log_outcome};
 
 use crate::answers::Answers;
@@ -42,7 +42,7 @@ const LONGEST: usize = 1_048_576;
 /// Reads what a log of at most 1,048,576 bytes answers of a description. What doesn't fit the description is among the
 /// answers' misfits.
 pub fn read_answers(alloc: Global, desc: &Desc, text: &[u8]) -> Result<Answers, AnswersFault>
-    ensures read { IfOk result (λ answers. answers_in desc.now text.now ≡ Some answers) }
+    ensures read { IfOk result (IsAnswered desc.now text.now) }
     ensures spelled { IfOk result HaveSpelledValues }
     ensures fault { IfErr result (RefusesAnswers desc.now text.now) }
     ensures too_long { (result ≡ Err AnswersFault.TooLong) ↔ (1048576 < length text.now) }

@@ -4,6 +4,7 @@ use Rattle.std.proofs.lemmas.List.{take-append-drop}
 use Rattle.tv_answers.specs.declared.answers.Answers.{Answers}
 use Rattle.tv_answers.specs.declared.misfit.Misfit.{Misfit}
 use Rattle.tv_answers.specs.Filling.{filled}
+use Rattle.tv_answers.specs.ReadLogs.{IsAnswered}
 use Rattle.tv_check.specs.Refusals.{HasFaults}
 use Rattle.tv_declarations.specs.CanonicalDescription.{description_text}
 use Rattle.tv_declarations.specs.Spelling.{IsDescription, word_lines}
@@ -17,7 +18,7 @@ use Rattle.tv_lang.proofs.ReadingLemmas.{other_reads, spelled_read}
 use Rattle.tv_model.specs.declared.desc.Desc.{Desc}
 use Rattle.tv_program.specs.declared.fill_fault.FillFault.{FillFault}
 use Rattle.tv_program.specs.declared.fill_fault.FillFault.TheVariants as fills
-use Rattle.tv_program.specs.Filling.{FillsTo, IsAnswered, IsTooLong, RefusesSound, Written, filled_text, misfit_messages}
+use Rattle.tv_program.specs.Filling.{FillsTo, IsTooLong, RefusesSound, Written, filled_text, misfit_messages}
 use Rattle.tv_program.specs.Reading.{IsNoDescription, IsSoundText}
 use Rattle.tv_program.specs.Report.{IsOffered}
 use Rattle.tv_words.specs.Lines.{lines_of}

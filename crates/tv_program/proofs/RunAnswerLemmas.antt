@@ -135,15 +135,15 @@ module _ (d : Desc) (can : CanBeSpelled d) (sound : IsSound d) (script : List It
   module _ (Mismade : Desc → Type 0) (name : List ℕ) (old new : Written) where
     comes : (result : Result (Unit {0}) AnswerFault) → AnswersTo Mismade name d written old new result → ComesAgain d a written old new result
     comes (Ok x) to =
-        let same : to.answers ≡ a = only to.answers to.fit.answered in
+        let same : to.answers ≡ a = only to.answers to.fit.answered.answered in
         let begun : AreRuns (filled d a) (endings_of d a) to.runs = subst (λ (given : Answers). AreRuns (filled d given) (endings_of d given) to.runs) same to.begun in
         record { runs = to.runs; begun = begun; ends = end_so to.runs begun; logs = to.logs }
     comes (Err (fails.Disabled ending)) to =
-        none_open to.runs ending false (subst (λ (given : Answers). AreRuns (filled d given) (endings_of d given) to.runs) (only to.answers to.fit.answered) to.begun) to.comes
+        none_open to.runs ending false (subst (λ (given : Answers). AreRuns (filled d given) (endings_of d given) to.runs) (only to.answers to.fit.answered.answered) to.begun) to.comes
     comes (Err (fails.Refused ending)) to =
-        none_open to.runs ending true (subst (λ (given : Answers). AreRuns (filled d given) (endings_of d given) to.runs) (only to.answers to.fit.answered) to.begun) to.comes
-    comes (Err fails.Misfits) to = to.2 (ap (λ (given : Answers). given.misfits) (only to.0 to.1))
-    comes (Err fails.NoAnswers) to = subst (λ (given : Answers). endings_of d given ≡ []) (only to.0 to.1) to.3
+        none_open to.runs ending true (subst (λ (given : Answers). AreRuns (filled d given) (endings_of d given) to.runs) (only to.answers to.fit.answered.answered) to.begun) to.comes
+    comes (Err fails.Misfits) to = to.2 (ap (λ (given : Answers). given.misfits) (only to.0 to.1.answered))
+    comes (Err fails.NoAnswers) to = subst (λ (given : Answers). endings_of d given ≡ []) (only to.0 to.1.answered) to.3
     comes (Err (fails.Answers fault)) to = fault_long fault to.0.0 to.0.1
     comes (Err (fails.Run fault)) to = tt
     comes (Err fails.Write) to = tt

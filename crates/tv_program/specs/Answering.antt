@@ -5,6 +5,7 @@ use Rattle.tv_answers.specs.declared.answers.Answer.{Answer}
 use Rattle.tv_answers.specs.declared.answers.Answers.{Answers}
 pub use Rattle.tv_answers.specs.Again.{begun_text, begun_with}
 use Rattle.tv_answers.specs.Filling.{filled}
+use Rattle.tv_answers.specs.ReadLogs.{IsAnswered}
 use Rattle.tv_declarations.specs.CanonicalDescription.{description_text}
 use Rattle.tv_lang.specs.Faults.{Spells}
 use Rattle.tv_words.specs.Fields.{IsName}
@@ -21,7 +22,7 @@ use Rattle.tv_program.specs.declared.answer_fault.AnswerFault.TheVariants as fai
 use Rattle.tv_program.specs.declared.answer_fault.Ending.{Ending}
 use Rattle.tv_program.specs.declared.run_fault.RunFault.{RunFault}
 use Rattle.tv_program.specs.declared.run_fault.RunFault.TheVariants as unrun
-use Rattle.tv_program.specs.Filling.{IsAnswered, IsNoLog, Written, misfit_messages}
+use Rattle.tv_program.specs.Filling.{IsNoLog, Written, misfit_messages}
 use Rattle.tv_program.specs.Playing.{IsNoStart, RefusesDesc}
 use Rattle.tv_program.specs.Reading.{IsSoundText}
 use Rattle.tv_program.specs.Report.{IsOffered}

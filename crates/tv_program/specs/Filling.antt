@@ -1,12 +1,12 @@
 -- What is written where a description is filled with answers.
-use Rattle.std.specs.Prelude.{◌≡◌, ◌≢◌, ℕ, ◌<◌, List, ◌++◌, flat_map, length, Some, Result, Ok, Err, codes}
+use Rattle.std.specs.Prelude.{◌≡◌, ◌≢◌, ℕ, ◌<◌, List, ◌++◌, flat_map, length, Result, Ok, Err, codes}
 use Rattle.tv_answers.specs.declared.answers.Answers.{Answers}
 use Rattle.tv_answers.specs.declared.misfit.Misfit.{Misfit}
 use Rattle.tv_answers.specs.declared.reading.AnswersFault.{AnswersFault}
 use Rattle.tv_answers.specs.declared.reading.AnswersFault.TheVariants as answers
 use Rattle.tv_answers.specs.Filling.{filled}
 use Rattle.tv_answers.specs.Misfits.{misfit_text}
-use Rattle.tv_answers.specs.ReadLogs.{RefusesAnswers, answers_in}
+use Rattle.tv_answers.specs.ReadLogs.{IsAnswered, RefusesAnswers}
 use Rattle.tv_check.specs.Refusals.{HasFaults}
 use Rattle.tv_declarations.specs.CanonicalDescription.{description_text}
 use Rattle.tv_io.specs.Writer.{Seen, Takes, Cuts}
@@ -38,10 +38,6 @@ misfit_messages name misfits = flat_map (misfit_message name) misfits
 -- the text of the description filled with the answers
 abbrev pub filled_text : Desc → Answers → List ℕ
 filled_text d a = description_text (filled d a)
-
--- what a log answers of the description
-abbrev pub IsAnswered : Desc → List ℕ → Answers → Type 0
-IsAnswered d written a = answers_in d written ≡ Some a
 
 -- the text spells no log of the description, for a reason of its own
 abbrev pub IsNoLog : Desc → List ℕ → AnswersFault → Type 0

@@ -1,7 +1,7 @@
-use Rattle.std.proofs.Common.{◌≡◌, ◌≤◌, Some, length, arith}
+use Rattle.std.proofs.Common.{◌≡◌, ◌≤◌, length, arith}
 use Rattle.std.proofs.lemmas.Result.{IfOk-weaker}
 use Rattle.tv_answers.specs.Outcomes.{Value, log_outcome}
-use Rattle.tv_answers.specs.ReadLogs.{answers_in}
+use Rattle.tv_answers.specs.ReadLogs.{IsAnswered}
 use Rattle.tv_answers.specs.Filling.{HaveSpelledValues}
 use Rattle.tv_answers.proofs.ValueLemmas.{answers_spelled}
 use Rattle.tv_answers.proofs.ReadLemmas.{all_read, all_refused}
@@ -9,7 +9,8 @@ use Rattle.tv_answers.proofs.reading.read_answers.Goals as goal
 
 pub returns-clause-read : goal.returns-clause-read
 returns-clause-read c =
-    IfOk-weaker c.read_lines.result (λ answers. log_outcome c.args.desc.now c.args.text.now ≡ Value answers) (λ answers. answers_in c.args.desc.now c.args.text.now ≡ Some answers) (λ answers e. all_read c.args.desc.now c.args.text.now answers e) c.read_lines.ensures.value
+    let short : length c.args.text.now ≤ 1048576 = omega arith in
+    IfOk-weaker c.read_lines.result (λ answers. log_outcome c.args.desc.now c.args.text.now ≡ Value answers) (IsAnswered c.args.desc.now c.args.text.now) (λ answers e. record { within = short; answered = all_read c.args.desc.now c.args.text.now answers e }) c.read_lines.ensures.value
 
 pub returns-clause-fault : goal.returns-clause-fault
 returns-clause-fault c =
