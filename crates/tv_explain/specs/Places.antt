@@ -1,5 +1,5 @@
 -- The place of each line of the canonical text in the user's own text, comments and empty lines counted.
-use Rattle.std.specs.Prelude.{◌≡◌, ℕ, ◌+◌, List, [], ◌∷◌, ◌++◌, Bool, true, false, Option, Some, None}
+use Rattle.std.specs.Prelude.{◌≡◌, ℕ, ◌+◌, ◌≤◌, ◌<◌, length, List, [], ◌∷◌, ◌++◌, Bool, true, false, Option, Some, None}
 use Rattle.std.specs.Prelude.{slice_get, slice_index, if◌then◌else◌}
 use Rattle.tv_model.specs.declared.desc.Desc.{Desc}
 use Rattle.tv_words.specs.Lines.{lines_of}
@@ -7,6 +7,7 @@ use Rattle.tv_words.specs.Words.{SpellsWords}
 use Rattle.tv_words.specs.Reading.LineWords.{line_words}
 use Rattle.tv_words.specs.declared.word.Word.{Word}
 use Rattle.tv_declarations.specs.Spelling.{word_lines}
+use Rattle.tv_lang.specs.Faults.{Spells}
 
 -- whether these are words, one at least
 abbrev pub are_words : Option (List Word) → Bool
@@ -43,3 +44,9 @@ pub record SpellsAt (text : List ℕ) (d : Desc) (line number : ℕ) : Type 0 wh
   pub stands : slice_get ([] ∷ lines_of text) number ≡ Some own
   pub declared : slice_get ([] ∷ word_lines d) line ≡ Some words
   pub spelled : SpellsWords own words
+
+-- where a text spells the description, each line of its canonical text is spelled at its place
+abbrev pub StandAtTheirPlaces : Desc → Type 0
+StandAtTheirPlaces d =
+    (text : List ℕ) → Spells text d → (line : ℕ) → 0 < line → line ≤ length (word_lines d)
+    → SpellsAt text d line (place text line)

@@ -20,6 +20,6 @@ mod why;
 
 pub use explaining::{Explained, explain};
 pub use groups::{FaultGroup, RuleFault, ViewFault, group_of};
-pub use places::Places;
+pub use places::{Places, lines_stand_at_their_places};
 pub use tv_faults::Line;
 pub use why::{Reason, Why};

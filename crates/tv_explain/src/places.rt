@@ -1,10 +1,11 @@
 //! The place of each line of the canonical text in the user's own text.
 
 ghost use Rattle.std.specs.Prelude.{◌≡◌, ◌≤◌, ◌++◌, length, IfOk, OnOk, Some, slice_index};
-ghost use Rattle.tv_explain.specs.Places.{are_words, places_of, said, says_something};
+ghost use Rattle.tv_explain.specs.Places.{StandAtTheirPlaces, are_words, places_of, said, says_something};
 
 use std::alloc::{AllocError, Global};
 use std::marker::Model;
+use tv_model::Desc;
 use tv_words::{Lines, Word, words_of};
 
 /// The places of the lines of a canonical text in the text that was read. Contracts see their numbers, after a 0.
@@ -77,3 +78,9 @@ impl Places {
         self.numbers.get(line as usize).copied().unwrap_or(0)
     }
 }
+
+/// A theorem, as a function without a body: where a text spells the description, the line whose number `place` gives
+/// spells that line of the canonical text.
+pub fn lines_stand_at_their_places(_desc: &Desc)
+    ensures { StandAtTheirPlaces _desc.now }
+{}
