@@ -1,23 +1,20 @@
 //! A description's script, run for the pictures at its shots.
 
-ghost use Rattle.std.specs.Prelude.{IfErr, IfOk};
-ghost use Rattle.tv_machine.specs.Run.{Session, started};
+ghost use Rattle.tv_machine.specs.Run.{Session};
 ghost use Rattle.tv_program.specs.Shots.{ShotsFrom, ShotsTo};
-ghost use Rattle.tv_program.specs.Playing.{IsMismade, IsNoStart, Makes};
+ghost use Rattle.tv_program.specs.Playing.{IsMismade, Makes};
 ghost use Rattle.tv_script.specs.Performed.{FitsLargestScreen};
-ghost use Rattle.tv_session.specs.Session.{StandsFor};
 
 use crate::album::Album;
 use crate::drawing::draw_shots;
 use crate::picture_fault::DrawingFault;
-use crate::playing::read_checked;
+use crate::playing::{begin, read_checked};
 use crate::reading::read_script;
-use crate::run_fault::RunFault;
 use std::alloc::Global;
 use tv_check::Checked;
 use tv_io::Reader;
 use tv_script::{Script, Stage};
-use tv_session::{BuildFault, SessionOf, Views, parts_are_lawful};
+use tv_session::{BuildFault, Views, parts_are_lawful};
 use tv_view::View;
 
 /// Runs a script on a description, and draws the screen at each `shot` of it, as `draw_shots` does.
@@ -50,23 +47,6 @@ pub fn picture_shots<
     parts_are_lawful(checked.desc());
     let mut session = begin(alloc, checked, make)?;
     draw_script(alloc, &mut session, script, name, album)
-}
-
-// Begins a run through the views that are made for the description.
-fn begin<V: View, F: Fn(Global, &Checked) -> Result<Views<V>, BuildFault>>(
-    alloc: Global,
-    checked: Checked,
-    make: &F,
-) -> Result<SessionOf<V>, RunFault>
-    requires { F.IsAlwaysCallable make.now }
-    ensures start { IfOk result (λ session. StandsFor V.meaning session (started checked)) }
-    ensures fault { IfErr result (λ fault. IsNoStart (IsMismade (Makes F.Fn make.now) V.meaning) checked fault) }
-{
-    let views = make(alloc, &checked)?;
-    match SessionOf::new(alloc, checked, views.windows, views.bodies) {
-        Ok(session) => Ok(session),
-        Err(refused) => Err(RunFault::from(refused.fault)),
-    }
 }
 
 // Reads a script to its end, and draws the screen at each `shot` of it.
