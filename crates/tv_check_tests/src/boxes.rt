@@ -19,8 +19,9 @@ impl Question for Boxing {
     }
 }
 
-fn request_of(alloc: Global, text: &str) -> Result<Request, Fail> {
-    let mut request = Request {
+// A box that shows nothing yet.
+fn empty_request(alloc: Global) -> Result<Request, Fail> {
+    Ok(Request {
         title: Chars::new(alloc),
         text: Chars::new(alloc),
         height: 0,
@@ -28,14 +29,23 @@ fn request_of(alloc: Global, text: &str) -> Result<Request, Fail> {
         labels: Labels::standard(alloc)?,
         default_no: false,
         kind: BoxKind::Message,
-    };
+    })
+}
+
+fn request_of(alloc: Global, text: &str) -> Result<Request, Fail> {
+    let mut request = empty_request(alloc)?;
+    set_parts(alloc, &mut request, text)?;
+    Ok(request)
+}
+
+fn set_parts(alloc: Global, request: &mut Request, text: &str) -> Result<(), Fail> {
     for line in text.lines() {
         let (part, value) = line.split_once(' ').unwrap_or((line, ""));
-        if !set_part(alloc, &mut request, part, value)? {
+        if !set_part(alloc, request, part, value)? {
             set_kind(alloc, &mut request.kind, part, value)?;
         }
     }
-    Ok(request)
+    Ok(())
 }
 
 fn chars(alloc: Global, text: &str) -> Result<Chars, Fail> {
@@ -57,38 +67,65 @@ fn add_row(text: &mut Chars, row: &str) -> Result<(), Fail> {
     Ok(())
 }
 
+// The title or the label that is called so.
+fn label<'a>(request: &'a mut Request, part: &str) -> Option<&'a mut Chars> {
+    match part {
+        "title" => Some(&mut request.title),
+        "yes" => Some(&mut request.labels.yes),
+        "no" => Some(&mut request.labels.no),
+        "ok" => Some(&mut request.labels.ok),
+        "cancel" => Some(&mut request.labels.cancel),
+        _ => None,
+    }
+}
+
 // Sets a part that any box may have; or answers that it is none.
 fn set_part(alloc: Global, request: &mut Request, part: &str, value: &str) -> Result<bool, Fail> {
+    if let Some(label) = label(request, part) {
+        *label = chars(alloc, value)?;
+        return Ok(true);
+    }
     match part {
-        "title" => request.title = chars(alloc, value)?,
         "text" => add_row(&mut request.text, value)?,
         "height" => request.height = value.parse::<u8>()?,
         "width" => request.width = value.parse::<u8>()?,
-        "yes" => request.labels.yes = chars(alloc, value)?,
-        "no" => request.labels.no = chars(alloc, value)?,
-        "ok" => request.labels.ok = chars(alloc, value)?,
-        "cancel" => request.labels.cancel = chars(alloc, value)?,
         "default-no" => request.default_no = true,
         _ => return Ok(false),
     }
     Ok(true)
 }
 
+// The kind of box that is called so, without items and fields.
+fn named_kind(alloc: Global, part: &str, value: &str) -> Result<Option<BoxKind>, Fail> {
+    Ok(Some(match part {
+        "yesno" => BoxKind::YesNo,
+        "msgbox" => BoxKind::Message,
+        "inputbox" => BoxKind::Input(chars(alloc, value)?),
+        "menu" => BoxKind::Menu(no_choices(alloc, value)?),
+        "checklist" => BoxKind::CheckList(no_choices(alloc, value)?),
+        "radiolist" => BoxKind::RadioList(no_choices(alloc, value)?),
+        "form" => BoxKind::Form(Sequence::new(alloc)),
+        _ => return Ok(None),
+    }))
+}
+
 // Sets the kind of the box, or adds an item or a field.
 fn set_kind(alloc: Global, kind: &mut BoxKind, part: &str, value: &str) -> Result<(), Fail> {
-    match part {
-        "yesno" => *kind = BoxKind::YesNo,
-        "msgbox" => *kind = BoxKind::Message,
-        "inputbox" => *kind = BoxKind::Input(chars(alloc, value)?),
-        "menu" => *kind = BoxKind::Menu(no_choices(alloc, value)?),
-        "checklist" => *kind = BoxKind::CheckList(no_choices(alloc, value)?),
-        "radiolist" => *kind = BoxKind::RadioList(no_choices(alloc, value)?),
-        "form" => *kind = BoxKind::Form(Sequence::new(alloc)),
-        "field" => add_field(alloc, kind, value)?,
-        "items" => add_items(alloc, kind, value.parse::<u8>()?)?,
-        _ => add_item(alloc, kind, value, part == "on")?,
+    match named_kind(alloc, part, value)? {
+        Some(named) => {
+            *kind = named;
+            Ok(())
+        }
+        None => add_part(alloc, kind, part, value),
     }
-    Ok(())
+}
+
+fn add_part(alloc: Global, kind: &mut BoxKind, part: &str, value: &str) -> Result<(), Fail> {
+    match part {
+        "field" => add_field(alloc, kind, value),
+        "items" => add_items(alloc, kind, value.parse::<u8>()?),
+        _ => add_item(alloc, kind, value, part == "on"),
+    }
 }
 
 fn no_choices(alloc: Global, rows: &str) -> Result<Choices, Fail> {
@@ -121,24 +158,31 @@ fn add_items(alloc: Global, kind: &mut BoxKind, count: u8) -> Result<(), Fail> {
     Ok(())
 }
 
-// The numbers of the field, then its label and what it holds.
 fn add_field(alloc: Global, kind: &mut BoxKind, value: &str) -> Result<(), Fail> {
     let BoxKind::Form(fields) = kind else {
         return Err(Fail::new("no fields here"));
     };
+    fields.push(field_of(alloc, value)?)?;
+    Ok(())
+}
+
+// The numbers of the field, then its label and what it holds.
+fn field_of(alloc: Global, value: &str) -> Result<FormField, Fail> {
     let mut words = value.split(' ');
-    let field = FormField {
-        label_row: words.next().unwrap_or("").parse::<u8>()?,
-        label_column: words.next().unwrap_or("").parse::<u8>()?,
-        row: words.next().unwrap_or("").parse::<u8>()?,
-        column: words.next().unwrap_or("").parse::<u8>()?,
-        width: words.next().unwrap_or("").parse::<u8>()?,
-        longest: words.next().unwrap_or("").parse::<u8>()?,
+    Ok(FormField {
+        label_row: number(words.next())?,
+        label_column: number(words.next())?,
+        row: number(words.next())?,
+        column: number(words.next())?,
+        width: number(words.next())?,
+        longest: number(words.next())?,
         label: chars(alloc, words.next().unwrap_or(""))?,
         start: chars(alloc, words.next().unwrap_or(""))?,
-    };
-    fields.push(field)?;
-    Ok(())
+    })
+}
+
+fn number(word: Option<&str>) -> Result<u8, Fail> {
+    Ok(word.unwrap_or("").parse::<u8>()?)
 }
 
 const QUESTIONS: &str = r#"yesno

@@ -25,21 +25,35 @@ impl Question for Filling<'_> {
 }
 
 fn filled_told(alloc: Global, before: &str, desc: Desc, answers: &Answers) -> Result<String, Fail> {
-    let begun = filled(alloc, desc, answers)?;
-    let printed = print(alloc, &begun)?;
+    let printed = printed_filled(alloc, desc, answers)?;
     let mut told = String::new(alloc);
-    for line in printed.as_str().lines() {
+    push_changed(alloc, &mut told, before, &printed)?;
+    push_misfits(alloc, &mut told, answers)?;
+    push_line(&mut told, "that is all")?;
+    Ok(told)
+}
+
+fn printed_filled(alloc: Global, desc: Desc, answers: &Answers) -> Result<String, Fail> {
+    let begun = filled(alloc, desc, answers)?;
+    Ok(print(alloc, &begun)?)
+}
+
+fn push_changed(alloc: Global, told: &mut String, before: &str, after: &str) -> Result<(), Fail> {
+    for line in after.lines() {
         let line = format!(in alloc; "{line}\n")?;
         if !before.contains(line.as_str()) {
             told.push_str(&line)?;
         }
     }
+    Ok(())
+}
+
+fn push_misfits(alloc: Global, told: &mut String, answers: &Answers) -> Result<(), Fail> {
     for misfit in answers.misfits.as_slice() {
         let line = format!(in alloc; "line {} doesn't fit", misfit.line)?;
-        push_line(&mut told, &line)?;
+        push_line(told, &line)?;
     }
-    push_line(&mut told, "that is all")?;
-    Ok(told)
+    Ok(())
 }
 
 // A form with a field of each kind, and a question.

@@ -11,7 +11,7 @@ use std::test::Fail;
 use tv_check::BuildStep;
 use tv_choices::{CheckBoxes, ListBox, RadioButtons};
 use tv_controls::{Button, ControlFault, InputLine, Label, StaticText};
-use tv_model::{Kind, Node};
+use tv_model::{Dialog, Kind, Node};
 
 // A dialog with a view of each kind.
 const KINDS: &str = r###"tvd 1
@@ -77,15 +77,23 @@ fn controls(rt: HostRuntime) -> Result<(), Fail> {
     expect_whole(made(rt.alloc()))
 }
 
-fn copied(alloc: Global) -> Result<(), Ending> {
-    let checked = checked_of(alloc, KINDS)?;
-    for dialog in checked.desc().dialogs.as_slice() {
+fn copied_node(alloc: Global, node: &Node) -> Result<(), Ending> {
+    let copy = node.copy(alloc)?;
+    expect(copy.is(node), "another node")
+}
+
+fn copied_views(alloc: Global, dialogs: &[Dialog]) -> Result<(), Ending> {
+    for dialog in dialogs {
         for view in dialog.views.as_slice() {
-            let copy = view.copy(alloc)?;
-            expect(copy.is(view), "another node")?;
+            copied_node(alloc, view)?;
         }
     }
     Ok(())
+}
+
+fn copied(alloc: Global) -> Result<(), Ending> {
+    let checked = checked_of(alloc, KINDS)?;
+    copied_views(alloc, checked.desc().dialogs.as_slice())
 }
 
 #[test]

@@ -13,23 +13,25 @@ use tv_check::Checked;
 use tv_controls::Button;
 use tv_io::FileReader;
 use tv_script::{Script, StreamFault, perform, perform_from};
-use tv_session::{SessionFault, SessionOf, Views, parts_are_lawful};
+use tv_session::{Refused, SessionFault, SessionOf, Views, parts_are_lawful};
 use tv_test_support::Memory;
 use tv_test_support::descriptions::CANCEL;
 use tv_view::View;
 
 // What was handed in comes back after a refusal, and a session is made of it.
 fn begin(alloc: Global, checked: Checked, views: Views<Button>) -> Result<(), Ending> {
-    let Views { windows, bodies } = views;
-    match SessionOf::new(alloc, checked, windows, bodies) {
+    match SessionOf::new(alloc, checked, views.windows, views.bodies) {
         Ok(_) => Ok(()),
-        Err(first) => {
-            let is_named = first.fault == SessionFault::NoMemory;
-            expect(is_named, "the views are refused")?;
-            let again = SessionOf::new(alloc, first.checked, first.windows, first.bodies);
-            refused(again.is_ok())
-        }
+        Err(first) => begin_again(alloc, first),
     }
+}
+
+fn begin_again(alloc: Global, first: Refused<Button>) -> Result<(), Ending> {
+    if first.fault != SessionFault::NoMemory {
+        return Err(Ending::Other("the views are refused"));
+    }
+    let again = SessionOf::new(alloc, first.checked, first.windows, first.bodies);
+    refused(again.is_ok())
 }
 
 fn begun(alloc: Global) -> Result<(), Ending> {
@@ -93,8 +95,7 @@ fn perform_all<V: View>(alloc: Global, session: &mut SessionOf<V>) -> Result<(),
 
 fn perform_over<V: View>(alloc: Global, checked: Checked, views: Views<V>) -> Result<(), Ending> {
     parts_are_lawful(checked.desc());
-    let Views { windows, bodies } = views;
-    match SessionOf::new(alloc, checked, windows, bodies) {
+    match SessionOf::new(alloc, checked, views.windows, views.bodies) {
         Ok(mut session) => perform_all(alloc, &mut session),
         Err(_) => Err(Ending::NoMemory),
     }
