@@ -119,7 +119,7 @@ screen goes to standard error, and the log, as `run` prints it, to standard
 output. So a shell script has it by answer=$(tvplay FILE).
 
 The terminal is one of UTF-8 that is large enough for the description's screen.
-It has to be set before, by stty raw -echo min 0 time 1; tools/tvplay does that
+It has to be set before, by stty raw -echo min 0 time 1; tvplay does that
 and sets it back. It ends after the command quit, where nothing is open and
 nothing can be opened, at Ctrl-\\ always, at Ctrl-C where no status item has that
 key, and at the end of standard input.
@@ -258,7 +258,7 @@ The options come first, then one box:
   --radiolist TEXT HEIGHT WIDTH ROWS {TAG ITEM on|off}..
   --form TEXT HEIGHT WIDTH ROWS {LABEL Y X START Y X WIDTH MOST}..
 
-A size of 0 is as large as is needed. tools/tvask plays what is printed, and answers
+A size of 0 is as large as is needed. tvask plays what is printed, and answers
 as `dialog` does.
 
 Usage: tvdlg box <ARGUMENTS>...
@@ -282,7 +282,7 @@ Tells of each fault of a description where it is, why it is one and how to mend 
 Each is told as FILE:LINE:COLUMN: FAULT: MESSAGE, with the lines of the file that
 have to do with it. Lines are those of the file, comments and empty lines counted,
 where those that `check` prints count declarations alone. Of a description that
-can't be read the lines that are none are told. One without faults prints nothing.
+can't be read, the lines at fault are told. One without faults prints nothing.
 
 With BESIDE, a script or a certificate, a description without faults is passed
 over and that file is told of: its lines that can't be read, or the first whose
