@@ -3,10 +3,13 @@
 use crate::forms::{LEAVES, form, text, text_probe};
 use crate::journal::{Call, Journal};
 use crate::samples::{body, env, reads, sized};
+use std::alloc::Global;
 use std::process::Abort;
+use std::rc::Rc;
 use std::test::Fail;
 use tv_cells::{Damage, Point, Screen};
 use tv_event::{Command, CommandSet, Event, Key, Phase};
+use tv_group::Group;
 use tv_palette::{Chain, Owner};
 use tv_view::{Reaction, View};
 
@@ -100,21 +103,32 @@ fn it_is_drawn_alone(rt: HostRuntime) -> Result<(), Fail> {
 fn it_is_drawn_and_dropped(rt: HostRuntime) -> Result<(), Fail> {
     let alloc = rt.alloc();
     let journal = Journal::new(alloc)?;
-    {
-        let form = form(alloc, &journal)?;
-        journal.expect(&[])?;
-        let chain = Chain::of_dialog();
-        let commands = CommandSet::all();
-        let mut screen = Screen::new(alloc, 40, 12)?;
-        let canvas = screen.canvas();
-        form.draw(
-            &mut screen,
-            canvas,
-            &env(Owner::Dialog, &chain, &commands, &[]),
-        );
-        journal.expect(&LEAVES.map(|id| (id, Call::Drawn)))?;
-        assert!(rt; reads(&screen, 1, 1, "Amount"));
-        assert!(rt; reads(&screen, 2, 3, "[ Save ]"));
-    }
+    expect_drawn(alloc, &journal)?;
     journal.expect(&LEAVES.map(|id| (id, Call::Dropped)))
+}
+
+fn expect_drawn(alloc: Global, journal: &Rc<Journal>) -> Result<(), Fail> {
+    let form = form(alloc, journal)?;
+    journal.expect(&[])?;
+    let screen = drawn(alloc, &form)?;
+    journal.expect(&LEAVES.map(|id| (id, Call::Drawn)))?;
+    let has_both = reads(&screen, 1, 1, "Amount") && reads(&screen, 2, 3, "[ Save ]");
+    if has_both {
+        Ok(())
+    } else {
+        Err("it is drawn otherwise")?
+    }
+}
+
+fn drawn(alloc: Global, form: &Group) -> Result<Screen, Fail> {
+    let chain = Chain::of_dialog();
+    let commands = CommandSet::all();
+    let mut screen = Screen::new(alloc, 40, 12)?;
+    let canvas = screen.canvas();
+    form.draw(
+        &mut screen,
+        canvas,
+        &env(Owner::Dialog, &chain, &commands, &[]),
+    );
+    Ok(screen)
 }

@@ -6,6 +6,7 @@ use std::test::Fail;
 use tv_event::{CommandSet, Event};
 use tv_lang::parse;
 use tv_menu::{MenuBar, Offered, StatusLine};
+use tv_model::Desc;
 
 /// Two menus and a status item: examples/menus.tvd.
 pub const MENUS: &str = r#"tvd 1
@@ -37,6 +38,10 @@ impl Bars {
     /// The bars of the description that a text spells.
     pub fn new(alloc: Global, text: &str) -> Result<Bars, Fail> {
         let desc = parse(alloc, text.as_bytes())?;
+        Bars::of(alloc, &desc)
+    }
+
+    fn of(alloc: Global, desc: &Desc) -> Result<Bars, Fail> {
         let menus = desc.menus.as_slice();
         let items = desc.status.as_slice();
         if !is_lawful_screen(&desc.width, &desc.height) {
@@ -46,8 +51,8 @@ impl Bars {
             return Err("outside the limits".into());
         }
         Ok(Bars {
-            bar: MenuBar::new(alloc, &desc)?,
-            line: StatusLine::new(alloc, &desc)?,
+            bar: MenuBar::new(alloc, desc)?,
+            line: StatusLine::new(alloc, desc)?,
         })
     }
 

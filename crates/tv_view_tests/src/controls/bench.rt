@@ -7,6 +7,7 @@ use bitflags::Flags;
 use std::alloc::Global;
 use std::test::Fail;
 use tv_cells::{Damage, Point, Screen};
+use tv_check::Checked;
 use tv_event::{Command, CommandSet, Event, Phase};
 use tv_machine::Item;
 use tv_model::{Id, Node, Record, Sequence};
@@ -65,10 +66,18 @@ impl Question for Playing {
         let text = str::from_utf8(text)?.trim_end();
         let (lines, script) = text.rsplit_once('\n').ok_or("no script")?;
         let checked = checked(alloc, lines)?;
-        let plan = plan(alloc, &checked)?;
+        self.played(alloc, &checked, script)
+    }
+}
+
+impl Playing {
+    // What the first control of a description answers.
+    fn played(&self, alloc: Global, checked: &Checked, script: &str) -> Result<String, Fail> {
+        let lent = Lent::new(views(checked)?);
+        let plan = plan(alloc, checked)?;
         let mut bench = Bench {
             view: first_control(alloc, plan.as_slice())?,
-            lent: Lent::new(views(&checked)?),
+            lent,
             phase: Phase::Focused,
             corner: self.corner,
             damage: Damage::new(),
@@ -137,38 +146,49 @@ impl Bench<'_> {
         Ok(told)
     }
 
-    fn act(&mut self, alloc: Global, told: &mut String, command: &str) -> Result<(), Fail> {
+    // Whether the command sets its phase, what it is lent, or what rules come to.
+    fn is_set_by(&mut self, command: &str) -> bool {
         let own = self.view.id();
         match command.as_bytes() {
             b"pre" => self.phase = Phase::Pre,
             b"main" => self.phase = Phase::Focused,
             b"post" => self.phase = Phase::Post,
             b"default" => self.lent.default_now = Some(own),
-            b"enter" => self.handle(alloc, told, &Event::Broadcast(Command::DEFAULT))?,
-            b"focus" => {
-                self.lent.focus = Some(own);
-                self.grant(told, own)?;
-            }
-            b"grant" => self.grant(told, own)?,
-            b"leave" => {
-                self.lent.focus = Some(Id(4));
-                self.grant(told, Id(4))?;
-            }
             b"hide" => self.apply(&[]),
             b"show" => self.apply(&[own]),
             b"disable" => self.enable(false),
             b"enable" => self.enable(true),
-            b"facts" => self.push_facts(alloc, told)?,
-            b"state" => self.push_state(alloc, told)?,
-            b"damage" => self.push_damage(told)?,
+            _ => return false,
+        }
+        true
+    }
+
+    fn act(&mut self, alloc: Global, told: &mut String, command: &str) -> Result<(), Fail> {
+        if self.is_set_by(command) {
+            return Ok(());
+        }
+        let own = self.view.id();
+        match command.as_bytes() {
+            b"enter" => self.handle(alloc, told, &Event::Broadcast(Command::DEFAULT)),
+            b"focus" => self.focus(told, own),
+            b"grant" => self.grant(told, own),
+            b"leave" => self.focus(told, Id(4)),
+            b"facts" => self.push_facts(alloc, told),
+            b"state" => self.push_state(alloc, told),
+            b"damage" => self.push_damage(told),
             [b'p', b'r', b'e', b's', b's', b' ', digit] => {
                 let item = digit.saturating_sub(b'0');
                 self.view.press_item(own, item, &mut self.damage);
-                self.push_state(alloc, told)?;
+                self.push_state(alloc, told)
             }
-            _ => self.other(alloc, told, command)?,
+            _ => self.other(alloc, told, command),
         }
-        Ok(())
+    }
+
+    // The focus is on a control, and goes there.
+    fn focus(&mut self, told: &mut String, id: Id) -> Result<(), Fail> {
+        self.lent.focus = Some(id);
+        self.grant(told, id)
     }
 
     // Another environment, the opening with a value, and the lines of a script.
