@@ -67,7 +67,7 @@ all_chars : (p : ℕ → Bool) → ((c : ℕ) → is_common c ≡ true → p c �
 all_chars p f [] e = refl
 all_chars p f (c ∷ cs) e = let h = and_parts (is_common c) (list_all is_common cs) e in rw (f c h.0, all_chars p f cs h.1) refl
 
-common_stands : (cs : List ℕ) → cs ≢ [] → list_all is_common cs ≡ true → Stands (Bare cs)
+pub common_stands : (cs : List ℕ) → cs ≢ [] → list_all is_common cs ≡ true → Stands (Bare cs)
 common_stands cs some e = ((some, all_chars is_bare bare_char cs e), all_chars is_plain plain_char cs e)
 
 common_ascii : (cs : List ℕ) → list_all is_common cs ≡ true → IsAscii cs
@@ -105,7 +105,7 @@ number_stands z fits = common_stands (signed_decimal z) (some_number z fits) (nu
 
 -- ---- bytes
 
-small_chars : (cs : List ℕ) → list_all (λ c. nat_lt c 128) cs ≡ true → IsAscii cs
+pub small_chars : (cs : List ℕ) → list_all (λ c. nat_lt c 128) cs ≡ true → IsAscii cs
 small_chars [] e = IsAscii-nil
 small_chars (c ∷ cs) e =
     let h = and_parts (nat_lt c 128) (list_all (λ c. nat_lt c 128) cs) e in
@@ -138,13 +138,13 @@ point_text_line word p common is =
     ∙ sym (ended (Bare word ∷ number_word p.x ∷ number_word p.y ∷ []) (IsAscii-append word _ (common_ascii word common) both))
 
 -- a character between quotes
-escaped_if : (ch : ℕ) (a b c : Bool) → c ≡ false → encode_utf8_all (cond a (92 ∷ 34 ∷ []) (cond b (92 ∷ 92 ∷ []) (cond c (92 ∷ 110 ∷ []) (ch ∷ [])))) ≡ cond a (92 ∷ 34 ∷ []) (cond b (92 ∷ 92 ∷ []) (encode_utf8 ch))
+pub escaped_if : (ch : ℕ) (a b c : Bool) → c ≡ false → encode_utf8_all (cond a (92 ∷ 34 ∷ []) (cond b (92 ∷ 92 ∷ []) (cond c (92 ∷ 110 ∷ []) (ch ∷ [])))) ≡ cond a (92 ∷ 34 ∷ []) (cond b (92 ∷ 92 ∷ []) (encode_utf8 ch))
 escaped_if ch true b c e = encodes-IsAscii (92 ∷ 34 ∷ []) (small_chars (92 ∷ 34 ∷ []) refl)
 escaped_if ch false true c e = encodes-IsAscii (92 ∷ 92 ∷ []) (small_chars (92 ∷ 92 ∷ []) refl)
 escaped_if ch false false true e = absurd cc
 escaped_if ch false false false e = append-nil (encode_utf8 ch)
 
-no_end : (ch : ℕ) → is_control ch ≡ false → (ch == 10) ≡ false
+pub no_end : (ch : ℕ) → is_control ch ≡ false → (ch == 10) ≡ false
 no_end ch clean = grind (arith, nat_tests)
 
 typed_text_line : (ch : ℕ) → is_control ch ≡ false → key_line (keys.Char ch) ≡ ended_line (Bare (codes "type") ∷ Quoted (ch ∷ []) ∷ [])
@@ -176,19 +176,19 @@ typed_stands ch is clean =
 -- ---- events
 
 -- the event's line is that of this line of a script, which stands in a text and has this event alone
-record IsLineOf (width height : ℤ) (e : Event) (l : Line) : Type 0 where
-  text : event_line e ≡ ended_line (words_of_line l)
-  stands : StandInLine (words_of_line l)
-  line : IsLine l
-  shown : IsTrue (is_on_screen width height l)
-  item : items_of_line l ≡ items.Event e ∷ []
+pub record IsLineOf (width height : ℤ) (e : Event) (l : Line) : Type 0 where
+  pub text : event_line e ≡ ended_line (words_of_line l)
+  pub stands : StandInLine (words_of_line l)
+  pub line : IsLine l
+  pub shown : IsTrue (is_on_screen width height l)
+  pub item : items_of_line l ≡ items.Event e ∷ []
 
 abbrev key_for : Key → Line
 key_for (keys.Char ch) = lines.Typed (ch ∷ [])
 key_for key = lines.Key key
 
 -- no event that a script can say is a command
-abbrev line_for : Event → Line
+abbrev pub line_for : Event → Line
 line_for (events.Key key) = key_for key
 line_for (events.Down p) = lines.Down p
 line_for (events.Move p) = lines.Move p
@@ -251,7 +251,7 @@ module _ (width height : ℤ) where
   pointed : (word : List ℕ) (p : Point) → word ≢ [] → list_all is_common word ≡ true → IsPointOf width height p → AllByRecursion Stands (Bare word ∷ number_word p.x ∷ number_word p.y ∷ [])
   pointed word p some common is = (common_stands word some common, (number_stands p.x is.0.0, (number_stands p.y is.0.1, tt)))
 
-  event_said : (e : Event) → IsSayable width height e → IsLineOf width height e (line_for e)
+  pub event_said : (e : Event) → IsSayable width height e → IsLineOf width height e (line_for e)
   event_said (events.Key key) is = key_said key is
   event_said (events.Down p) is = record {
     text = point_text_line (codes "down") p refl is.0;
@@ -299,7 +299,7 @@ module _ (width height : ℤ) where
         are = ap (λ x. x ++ script_with events) (sym first.item) ∙ ap (λ x. items_of_line (line_for e) ++ x) rest.are;
       }
 
-  all_declared : (wss : List (List Word)) → AllByRecursion StandInLine wss → declarations wss ≡ wss
+  pub all_declared : (wss : List (List Word)) → AllByRecursion StandInLine wss → declarations wss ≡ wss
   all_declared [] stand = refl
   all_declared ([] ∷ wss) stand = absurd stand.0
   all_declared ((w ∷ ws) ∷ wss) stand = ap (λ x. (w ∷ ws) ∷ x) (all_declared wss stand.1)
