@@ -2,7 +2,7 @@
 
 use crate::index::Index;
 use crate::owner::{Owner, free_room, is_free, may_grow};
-use crate::room::{Axis, COLUMNS, Extent, ROWS, Room};
+use crate::room::{Axis, AxisWords, Extent, Room};
 use std::alloc::{AllocError, Global};
 use tv_faults::least_width;
 use tv_model::{Kind, Node};
@@ -32,9 +32,9 @@ fn further_down(
 ) -> Result<String, AllocError> {
     let own = Room::of(node);
     let (word, count, row) = (owner.word, own.rows.count(), owner.room.rows.next());
-    let below = own.with_rows(own.rows.moved_to(row));
+    let below = own.with(Axis::Rows, own.rows.moved_to(row));
     let fits = own.columns.is_within(owner.room.columns) && is_free(index, node, below);
-    if fits && may_grow(index, owner, 0, count) {
+    if fits && may_grow(index, owner, Axis::Rows, count) {
         format!(in alloc; "make the {word} {count} higher, and begin at row {row}")
     } else {
         String::from_str(alloc, otherwise)
@@ -57,14 +57,12 @@ pub fn has_height(kind: &Kind) -> bool {
     )
 }
 
-// Whether what has these columns can have so many.
-fn may_be_wide(kind: &Kind, count: i64) -> bool {
-    i64::from(least_width(kind)) <= count
-}
-
-// Whether what has these rows can have so many.
-fn may_be_high(kind: &Kind, count: i64) -> bool {
-    has_height(kind) && least_height(kind) <= count
+// Whether a node of the kind can have so few columns or rows.
+fn may_shrink(kind: &Kind, axis: Axis, count: i64) -> bool {
+    match axis {
+        Axis::Columns => i64::from(least_width(kind)) <= count,
+        Axis::Rows => has_height(kind) && least_height(kind) <= count,
+    }
 }
 
 // What is said where a view fits nowhere.
@@ -86,9 +84,9 @@ fn move_columns(
     } else {
         (latest, "latest")
     };
-    let moved = own.with_columns(own.columns.moved_to(place));
+    let moved = own.with(Axis::Columns, own.columns.moved_to(place));
     let left = own.columns.count().saturating_sub(over);
-    let may_shrink = !is_before && may_be_wide(&node.kind, left);
+    let may_shrink = !is_before && may_shrink(&node.kind, Axis::Columns, left);
     match (is_free(index, node, moved), may_shrink) {
         (true, false) => format!(in alloc; "begin at column {place} at the {bound}"),
         (true, true) => format!(in alloc;
@@ -115,8 +113,8 @@ fn move_rows(
     } else {
         (latest, "up")
     };
-    let moved = own.with_rows(own.rows.moved_to(place));
-    let may_grow = !is_before && may_grow(index, owner, 0, over);
+    let moved = own.with(Axis::Rows, own.rows.moved_to(place));
+    let may_grow = !is_before && may_grow(index, owner, Axis::Rows, over);
     match (is_free(index, node, moved), may_grow) {
         (true, false) => format!(in alloc; "move it {turn} to row {place}"),
         (true, true) => format!(in alloc;
@@ -152,39 +150,24 @@ fn begin_of(own: Extent, room: Extent) -> Option<i64> {
     (own.first < room.first).then_some(room.first)
 }
 
-fn too_wide(index: &Index, node: &Node, owner: Owner) -> Excess {
-    let (own, room) = (Room::of(node), owner.room.columns);
-    let over = excess_of(own.columns, room);
-    let begin = own.columns.first.max(room.first);
-    let place = own.with_columns(own.columns.moved_to(begin));
-    let left = own.columns.count().saturating_sub(over);
+fn excess_along(index: &Index, node: &Node, owner: Owner, axis: Axis) -> Excess {
+    let place = Room::of(node);
+    let (own, room) = (place.along(axis), owner.room.along(axis));
+    let over = excess_of(own, room);
+    let begun = place.with(axis, own.moved_to(own.first.max(room.first)));
+    let left = own.count().saturating_sub(over);
     Excess {
-        axis: COLUMNS,
+        axis,
         over,
-        begin: begin_of(own.columns, room),
-        may_shrink: may_be_wide(&node.kind, left),
-        may_grow: may_grow(index, owner, over, 0) && is_free(index, node, place),
-    }
-}
-
-fn too_high(index: &Index, node: &Node, owner: Owner) -> Excess {
-    let (own, room) = (Room::of(node), owner.room.rows);
-    let over = excess_of(own.rows, room);
-    let begin = own.rows.first.max(room.first);
-    let place = own.with_rows(own.rows.moved_to(begin));
-    let left = own.rows.count().saturating_sub(over);
-    Excess {
-        axis: ROWS,
-        over,
-        begin: begin_of(own.rows, room),
-        may_shrink: may_be_high(&node.kind, left),
-        may_grow: may_grow(index, owner, 0, over) && is_free(index, node, place),
+        begin: begin_of(own, room),
+        may_shrink: may_shrink(&node.kind, axis, left),
+        may_grow: may_grow(index, owner, axis, over) && is_free(index, node, begun),
     }
 }
 
 // Where it has to begin, before what else has to be done.
 fn begin_text(alloc: Global, axis: Axis, begin: Option<i64>) -> Result<String, AllocError> {
-    let one = axis.one;
+    let one = axis.words().one;
     match begin {
         Some(first) => format!(in alloc; "begin at {one} {first}, and "),
         None => Ok(String::new(alloc)),
@@ -194,7 +177,7 @@ fn begin_text(alloc: Global, axis: Axis, begin: Option<i64>) -> Result<String, A
 // How to mend what is too long for an owner that is called so.
 fn excess_mend(alloc: Global, excess: Excess, word: &str) -> Result<String, AllocError> {
     let Excess { axis, over, .. } = excess;
-    let (less, more) = (axis.less, axis.more);
+    let AxisWords { less, more, .. } = axis.words();
     let begin = begin_text(alloc, axis, excess.begin)?;
     match (excess.may_shrink, excess.may_grow) {
         (true, true) => {
@@ -207,32 +190,19 @@ fn excess_mend(alloc: Global, excess: Excess, word: &str) -> Result<String, Allo
     }
 }
 
-/// Says how to bring columns back inside.
-pub fn columns_mend(
+/// Says how to bring a node's columns or rows back inside of its owner.
+pub fn inside_mend(
     alloc: Global,
     index: &Index,
     node: &Node,
     owner: Owner,
+    axis: Axis,
 ) -> Result<String, AllocError> {
-    let own = Room::of(node).columns;
-    if own.count() <= owner.room.columns.count() {
-        move_columns(alloc, index, node, owner)
-    } else {
-        excess_mend(alloc, too_wide(index, node, owner), owner.word)
+    if owner.room.along(axis).count() < Room::of(node).along(axis).count() {
+        return excess_mend(alloc, excess_along(index, node, owner, axis), owner.word);
     }
-}
-
-/// Says how to bring rows back inside.
-pub fn rows_mend(
-    alloc: Global,
-    index: &Index,
-    node: &Node,
-    owner: Owner,
-) -> Result<String, AllocError> {
-    let own = Room::of(node).rows;
-    if own.count() <= owner.room.rows.count() {
-        move_rows(alloc, index, node, owner)
-    } else {
-        excess_mend(alloc, too_high(index, node, owner), owner.word)
+    match axis {
+        Axis::Columns => move_columns(alloc, index, node, owner),
+        Axis::Rows => move_rows(alloc, index, node, owner),
     }
 }

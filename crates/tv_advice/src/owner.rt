@@ -2,7 +2,7 @@
 
 use crate::index::Index;
 use crate::naming::word_of;
-use crate::room::Room;
+use crate::room::{Axis, Room};
 use tv_model::{Desc, Node};
 
 /// What something may stand in.
@@ -48,15 +48,23 @@ const WIDEST: i64 = 132;
 
 const HIGHEST: i64 = 60;
 
-// Whether the screen can have so many columns and rows more.
-fn screen_may_grow(desc: &Desc, columns: i64, rows: i64) -> bool {
-    i64::from(desc.width).saturating_add(columns) <= WIDEST
-        && i64::from(desc.height).saturating_add(rows) <= HIGHEST
+// Whether a window, a dialog, a pane or the screen can have so many columns and rows.
+fn may_have(columns: i64, rows: i64) -> bool {
+    columns <= WIDEST && rows <= HIGHEST
+}
+
+// Whether the screen can have so many columns or rows more.
+fn screen_may_grow(desc: &Desc, axis: Axis, count: i64) -> bool {
+    let (width, height) = (i64::from(desc.width), i64::from(desc.height));
+    match axis {
+        Axis::Columns => may_have(width.saturating_add(count), height),
+        Axis::Rows => may_have(width, height.saturating_add(count)),
+    }
 }
 
 // Whether a pane, a window or a dialog can take this room, which is larger than its own.
 fn may_take(index: &Index, node: &Node, grown: Room) -> bool {
-    if grown.columns.count() > WIDEST || grown.rows.count() > HIGHEST {
+    if !may_have(grown.columns.count(), grown.rows.count()) {
         return false;
     }
     match index.declared(node.id.0).owner {
@@ -65,10 +73,10 @@ fn may_take(index: &Index, node: &Node, grown: Room) -> bool {
     }
 }
 
-/// Whether an owner can have so many columns and rows more, without a fault that it hasn't now.
-pub fn may_grow(index: &Index, owner: Owner, columns: i64, rows: i64) -> bool {
+/// Whether an owner can have so many columns or rows more, without a fault that it hasn't now.
+pub fn may_grow(index: &Index, owner: Owner, axis: Axis, count: i64) -> bool {
     match owner.node {
-        Some(node) => may_take(index, node, Room::of(node).grown_by(columns, rows)),
-        None => screen_may_grow(index.desc(), columns, rows),
+        Some(node) => may_take(index, node, Room::of(node).grown_by(axis, count)),
+        None => screen_may_grow(index.desc(), axis, count),
     }
 }

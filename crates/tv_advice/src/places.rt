@@ -1,10 +1,10 @@
 //! What is told of a place: F2 and F3.
 
 use crate::index::Index;
-use crate::moves::{columns_mend, elsewhere, has_height, rows_mend};
+use crate::moves::{elsewhere, has_height, inside_mend};
 use crate::naming::{called, word_of, x_word};
 use crate::owner::{Owner, is_free};
-use crate::room::{Axis, COLUMNS, Extent, ROWS, Room, extent_text};
+use crate::room::{Axis, AxisWords, Extent, Room, extent_text};
 use crate::saying::{LinePart, Saying};
 use std::alloc::{AllocError, Global};
 use tv_faults::least_width;
@@ -19,19 +19,19 @@ fn outside_label(
 ) -> Result<String, AllocError> {
     let text = extent_text(alloc, axis, own)?;
     let Extent { first, last } = room;
+    let AxisWords {
+        one,
+        several,
+        all,
+        ..
+    } = axis.words();
     if last < first {
-        let several = axis.several;
         return format!(in alloc; "{text}, but there are no {several} inside");
     }
     if first == last {
-        let one = axis.one;
         return format!(in alloc; "{text}, but the only {one} inside is {first}");
     }
-    let those = if own.first == own.last {
-        axis.all
-    } else {
-        "those"
-    };
+    let those = if own.first == own.last { all } else { "those" };
     format!(in alloc; "{text}, but {those} inside are {first} to {last}")
 }
 
@@ -40,57 +40,20 @@ fn is_too_long(own: Extent, room: Extent) -> bool {
     room.first <= own.first && room.count() < own.count()
 }
 
-// The word with the columns that are outside: where they begin, or how many they are.
-fn column_word(kind: &Kind, own: Extent, room: Extent) -> usize {
-    let at = x_word(kind);
-    if is_too_long(own, room) {
+// The word with the columns or rows that are outside: where they begin, or how many they are.
+fn outside_word(kind: &Kind, axis: Axis, own: Extent, room: Extent) -> usize {
+    let (at, has_count) = match axis {
+        Axis::Columns => (x_word(kind), true),
+        Axis::Rows => (x_word(kind).saturating_add(1), has_height(kind)),
+    };
+    if has_count && is_too_long(own, room) {
         at.saturating_add(2)
     } else {
         at
     }
 }
 
-// The same of rows.
-fn row_word(kind: &Kind, own: Extent, room: Extent) -> usize {
-    let at = x_word(kind).saturating_add(1);
-    if has_height(kind) && is_too_long(own, room) {
-        at.saturating_add(2)
-    } else {
-        at
-    }
-}
-
-// What is told of a node whose columns are outside of its owner's.
-fn outside_columns(
-    alloc: Global,
-    index: &Index,
-    node: &Node,
-    owner: Owner,
-    message: &str,
-) -> Result<Saying, AllocError> {
-    let (own, room) = (Room::of(node).columns, owner.room.columns);
-    let label = outside_label(alloc, COLUMNS, own, room)?;
-    let mend = columns_mend(alloc, index, node, owner)?;
-    let part = LinePart::word(column_word(&node.kind, own, room));
-    Saying::new(alloc, message, part, &label, &mend)
-}
-
-// The same of its rows.
-fn outside_rows(
-    alloc: Global,
-    index: &Index,
-    node: &Node,
-    owner: Owner,
-    message: &str,
-) -> Result<Saying, AllocError> {
-    let (own, room) = (Room::of(node).rows, owner.room.rows);
-    let label = outside_label(alloc, ROWS, own, room)?;
-    let mend = rows_mend(alloc, index, node, owner)?;
-    let part = LinePart::word(row_word(&node.kind, own, room));
-    Saying::new(alloc, message, part, &label, &mend)
-}
-
-// What is told of a node that doesn't fit into its owner's room.
+// What is told of a node that doesn't fit into its owner's room: of its columns, or of its rows where those fit.
 fn outside_in(
     alloc: Global,
     index: &Index,
@@ -98,11 +61,17 @@ fn outside_in(
     owner: Owner,
     message: &str,
 ) -> Result<Saying, AllocError> {
-    if Room::of(node).columns.is_within(owner.room.columns) {
-        outside_rows(alloc, index, node, owner, message)
+    let place = Room::of(node);
+    let axis = if place.columns.is_within(owner.room.columns) {
+        Axis::Rows
     } else {
-        outside_columns(alloc, index, node, owner, message)
-    }
+        Axis::Columns
+    };
+    let (own, room) = (place.along(axis), owner.room.along(axis));
+    let label = outside_label(alloc, axis, own, room)?;
+    let mend = inside_mend(alloc, index, node, owner, axis)?;
+    let part = LinePart::word(outside_word(&node.kind, axis, own, room));
+    Saying::new(alloc, message, part, &label, &mend)
 }
 
 /// Tells how a view lies outside its pane, window or dialog.
@@ -147,8 +116,8 @@ fn place_part(kind: &Kind) -> LinePart {
 // Where a node stands.
 fn place_text(alloc: Global, node: &Node) -> Result<String, AllocError> {
     let Room { columns, rows } = Room::of(node);
-    let across = extent_text(alloc, COLUMNS, columns)?;
-    let down = extent_text(alloc, ROWS, rows)?;
+    let across = extent_text(alloc, Axis::Columns, columns)?;
+    let down = extent_text(alloc, Axis::Rows, rows)?;
     format!(in alloc; "{across}, {down}")
 }
 
@@ -166,7 +135,7 @@ fn free_place(index: &Index, node: &Node, room: Room, places: [Room; 2]) -> Opti
 fn narrower(index: &Index, node: &Node, other: &Node) -> Option<i64> {
     let own = Room::of(node);
     let end = Room::of(other).columns.first.saturating_sub(1);
-    let left = own.with_columns(own.columns.up_to(end));
+    let left = own.with(Axis::Columns, own.columns.up_to(end));
     let is_enough = i64::from(least_width(&node.kind)) <= left.columns.count();
     (is_enough && is_free(index, node, left)).then_some(own.columns.last.saturating_sub(end))
 }
@@ -177,12 +146,12 @@ fn free_places(index: &Index, node: &Node, other: &Node, room: Room) -> (Option<
     let before = taken.columns.first.saturating_sub(own.columns.count());
     let above = taken.rows.first.saturating_sub(own.rows.count());
     let beside = [
-        own.with_columns(own.columns.moved_to(taken.columns.next())),
-        own.with_columns(own.columns.moved_to(before)),
+        own.with(Axis::Columns, own.columns.moved_to(taken.columns.next())),
+        own.with(Axis::Columns, own.columns.moved_to(before)),
     ];
     let below = [
-        own.with_rows(own.rows.moved_to(taken.rows.next())),
-        own.with_rows(own.rows.moved_to(above)),
+        own.with(Axis::Rows, own.rows.moved_to(taken.rows.next())),
+        own.with(Axis::Rows, own.rows.moved_to(above)),
     ];
     let column = free_place(index, node, room, beside).map(|place| place.columns.first);
     let row = free_place(index, node, room, below).map(|place| place.rows.first);

@@ -3,9 +3,16 @@
 use std::alloc::{AllocError, Global};
 use tv_model::{Desc, Kind, Node};
 
-/// Columns or rows: what one is called, several are and all are, and what has fewer or more of them.
+/// Columns or rows.
 #[derive(Clone, Copy)]
-pub struct Axis {
+pub enum Axis {
+    Columns,
+    Rows,
+}
+
+/// What one is called, several are and all are, and what has fewer or more of them.
+#[derive(Clone, Copy)]
+pub struct AxisWords {
     pub one: &'static str,
     pub several: &'static str,
     pub all: &'static str,
@@ -13,21 +20,27 @@ pub struct Axis {
     pub more: &'static str,
 }
 
-pub const COLUMNS: Axis = Axis {
-    one: "column",
-    several: "columns",
-    all: "the columns",
-    less: "narrower",
-    more: "wider",
-};
-
-pub const ROWS: Axis = Axis {
-    one: "row",
-    several: "rows",
-    all: "the rows",
-    less: "lower",
-    more: "higher",
-};
+impl Axis {
+    /// Returns its words.
+    pub fn words(self) -> AxisWords {
+        match self {
+            Axis::Columns => AxisWords {
+                one: "column",
+                several: "columns",
+                all: "the columns",
+                less: "narrower",
+                more: "wider",
+            },
+            Axis::Rows => AxisWords {
+                one: "row",
+                several: "rows",
+                all: "the rows",
+                less: "lower",
+                more: "higher",
+            },
+        }
+    }
+}
 
 /// Columns or rows, the first and the last.
 #[derive(Clone, Copy)]
@@ -145,22 +158,31 @@ impl Room {
         }
     }
 
-    /// Returns these columns and its rows.
-    pub fn with_columns(self, columns: Extent) -> Room {
-        Room { columns, ..self }
-    }
-
-    /// Returns its columns and these rows.
-    pub fn with_rows(self, rows: Extent) -> Room {
-        Room { rows, ..self }
-    }
-
-    /// Returns it with so many columns and rows more.
-    pub fn grown_by(self, columns: i64, rows: i64) -> Room {
-        Room {
-            columns: self.columns.longer(columns),
-            rows: self.rows.longer(rows),
+    /// Returns its columns or its rows.
+    pub fn along(self, axis: Axis) -> Extent {
+        match axis {
+            Axis::Columns => self.columns,
+            Axis::Rows => self.rows,
         }
+    }
+
+    /// Returns it with these columns or rows in place of its own.
+    pub fn with(self, axis: Axis, extent: Extent) -> Room {
+        match axis {
+            Axis::Columns => Room {
+                columns: extent,
+                ..self
+            },
+            Axis::Rows => Room {
+                rows: extent,
+                ..self
+            },
+        }
+    }
+
+    /// Returns it with so many columns or rows more.
+    pub fn grown_by(self, axis: Axis, count: i64) -> Room {
+        self.with(axis, self.along(axis).longer(count))
     }
 
     /// Returns it begun beside another one, below it, and below it at the left of what is around both.
@@ -196,11 +218,10 @@ impl Room {
 /// Columns or rows by their numbers.
 pub fn extent_text(alloc: Global, axis: Axis, extent: Extent) -> Result<String, AllocError> {
     let Extent { first, last } = extent;
+    let AxisWords { one, several, .. } = axis.words();
     if first == last {
-        let one = axis.one;
         format!(in alloc; "{one} {first}")
     } else {
-        let several = axis.several;
         format!(in alloc; "{several} {first} to {last}")
     }
 }
