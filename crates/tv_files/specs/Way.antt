@@ -24,7 +24,7 @@ use Rattle.tv_reach.specs.declared.answer.Answer.{Answer}
 use Rattle.tv_reach.specs.declared.answer.Answer.TheVariants as answers
 use Rattle.tv_reach.specs.declared.goal.Goal.TheVariants.{Ends}
 use Rattle.tv_reach.specs.Answers.{IsAnswer}
-use Rattle.tv_reach.specs.Goals.{Reaches}
+use Rattle.tv_ways.specs.Asking.{IsFoundWay}
 use Rattle.tv_ways.specs.Listing.{way_text}
 use Rattle.tv_ways.specs.Wording.{script_text}
 
@@ -57,7 +57,7 @@ pub data WritesScript (file : List ℕ) (events : List Event) (old new : Seen) (
 -- a way to the end of the dialog at the place was written, or why there is none is told
 pub data EndsAt (file : List ℕ) (d : Desc) (place : ℕ) (c : Command) (old new : Seen) (how : Done) (end : End)
     : Type 0 where
-  reached : (events : List Event) → Reaches d place (Ends c) events → WritesScript file events old new how end
+  reached : (events : List Event) → IsFoundWay d place (Ends c) events → WritesScript file events old new how end
       → EndsAt file d place c old new how end
   unreached : (answer : Answer) → IsAnswer d place (Ends c) answer → is_way answer ≡ false → new ≡ old → how ≡ Whole
       → end ≡ wayless file (way_text d (record { goal = Ends c; answer = answer })) → EndsAt file d place c old new how end

@@ -1,4 +1,5 @@
 pub mod CutLemmas
 mod RunningLemmas
+mod ScriptLemmas
 mod SpelledLemmas
 mod WordingLemmas

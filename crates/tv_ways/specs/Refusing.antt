@@ -7,6 +7,7 @@ use Rattle.tv_model.specs.declared.desc.Desc.{Desc}
 use Rattle.tv_model.specs.declared.log.LogLine.TheVariants as lines
 use Rattle.tv_model.specs.declared.node.Id.{Id}
 use Rattle.tv_reach.specs.Goals.{IsOpenAt}
+use Rattle.tv_ways.specs.Wording.{AreSayable}
 
 -- the dialog at the place is open, the input has just refused, and another control has the focus: an input that refuses an
 -- end gets the focus, unless it is hidden
@@ -15,6 +16,6 @@ pub record IsRefusedAt (d : Desc) (place : ℕ) (i : Id) (s : State) : Type 0 wh
   pub logged : Contains s.log (lines.Invalid i)
   pub elsewhere : at.«open».focus ≢ i
 
--- it is so after these events
+-- it is so after these events, which a script can say
 abbrev pub IsRefused : Desc → ℕ → Id → List Event → Type 0
-IsRefused d place i events = IsRefusedAt d place i (state_after d events)
+IsRefused d place i events = IsRefusedAt d place i (state_after d events) × AreSayable d events

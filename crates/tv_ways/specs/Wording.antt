@@ -1,10 +1,12 @@
 -- Events as words and as scripts.
-use Rattle.std.specs.Prelude.{[], ℕ, Bool, true, false, List, ◌∷◌, ◌++◌, Option, Some, None, codes, if◌then◌else◌, length, ◌==◌}
+use Rattle.std.specs.Prelude.{[], ◌≤◌, ℕ, All, Bool, true, false, List, ◌∷◌, ◌++◌, Option, Some, None, codes, if◌then◌else◌, length, ◌==◌}
 use Rattle.tv_event.specs.declared.event.Event.{Event}
 use Rattle.tv_event.specs.declared.event.Event.TheVariants as events
 use Rattle.tv_event.specs.declared.event.Key.TheVariants as keys
+use Rattle.tv_model.specs.declared.desc.Desc.{Desc}
 use Rattle.tv_model.specs.Log.LogText.{escaped_in_log}
-use Rattle.tv_script.specs.Tapes.{event_words}
+use Rattle.tv_script.specs.Scripts.{SpellsAScript}
+use Rattle.tv_script.specs.Tapes.{IsSayable, event_words, script_with}
 
 -- the event types a character
 abbrev pub is_typed : Event → Bool
@@ -53,3 +55,14 @@ way_words events = if length events == 0 then codes "at the start" else words_af
 -- events as a script
 abbrev pub script_text : List Event → List ℕ
 script_text events = if length events == 0 then [] else words_after (10 ∷ []) None events ++ (10 ∷ [])
+
+-- a script for the screen of the description can say these events
+abbrev pub AreSayable : Desc → List Event → Type 0
+AreSayable d events = All (IsSayable d.width d.height) events
+
+-- such events as a script spell the script that has them and nothing else, where there are no more of them and of its bytes than
+-- a script may have
+abbrev pub WaysAreScripts : Type 0
+WaysAreScripts =
+    (d : Desc) (events : List Event) → AreSayable d events → length events ≤ 100000 → length (script_text events) ≤ 1048576
+    → SpellsAScript d.width d.height (script_text events) (script_with events)

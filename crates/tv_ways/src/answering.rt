@@ -1,19 +1,22 @@
 //! Whether events reach a goal.
 
-ghost use Rattle.std.specs.Prelude.{◌≡◌, IfOk, IfSome, Some, slice_get};
+ghost use Rattle.std.specs.Prelude.{◌≡◌, IfOk, IfSome, IsTrue, Some, slice_get};
 ghost use Rattle.tv_app.specs.Opening.{IsSpelledSound};
-ghost use Rattle.tv_app.specs.Running.{Runs, started};
+ghost use Rattle.tv_app.specs.Running.{Runs, Session, started};
 ghost use Rattle.tv_model.specs.declared.desc.Desc.{Desc as Declared};
 ghost use Rattle.tv_machine.specs.Dialog.Sound.{HasSoundDialogs};
 ghost use Rattle.tv_reach.specs.Answers.{IsAnswer, IsNever};
-ghost use Rattle.tv_reach.specs.Goals.{Reaches};
+ghost use Rattle.tv_reach.specs.Goals.{IsAt};
 ghost use Rattle.tv_reach.specs.Never.{DialogsRise};
+ghost use Rattle.tv_ways.specs.Asking.{HasSayableWay, IsFoundWay};
+ghost use Rattle.tv_ways.specs.Wording.{AreSayable};
 
 use crate::outline::Outline;
 use crate::path::Step;
 use crate::running::{dialog_at, has_reached, make_all};
 use crate::walk::masks;
 use crate::way::ways;
+use crate::wording::are_sayable;
 use std::alloc::{AllocError, Global};
 use tv_app::{App, OpenFault, open};
 use tv_event::Event;
@@ -32,7 +35,18 @@ pub(crate) fn start(alloc: Global, text: &[u8]) -> Result<Option<App>, AllocErro
     }
 }
 
-// The events of the steps, if they reach the goal in a run that is at its start.
+// Whether the run has reached the goal, and a script can say the events.
+fn is_found(app: &App, place: usize, goal: Goal, events: &[Event]) -> bool
+    ensures { IsTrue result → (s : Session) → Runs app.now s → IsAt s.desc place goal s.state × AreSayable s.desc events.now }
+{
+    if has_reached(app, place, goal) {
+        are_sayable(app.desc(), events)
+    } else {
+        false
+    }
+}
+
+// The events of the steps, if they reach the goal in a run that is at its start, and a script can say them.
 fn confirmed(
     alloc: Global,
     app: App,
@@ -41,11 +55,11 @@ fn confirmed(
     steps: &[Step],
 ) -> Result<Option<Sequence<Event>>, AllocError>
     requires { (d : Declared) × Runs app (started d) }
-    ensures { IfOk result (λ found. IfSome found (λ events. (d : Declared) → Runs app (started d) → Reaches d place goal events)) }
+    ensures { IfOk result (λ found. IfSome found (λ events. (d : Declared) → Runs app (started d) → IsFoundWay d place goal events)) }
 {
     let mut app = app;
     let events = make_all(alloc, &mut app, steps)?;
-    Ok(if has_reached(&app, place, goal) {
+    Ok(if is_found(&app, place, goal, events.as_slice()) {
         Some(events)
     } else {
         None
@@ -61,7 +75,7 @@ fn first_way(
     ways: &[Vec<Step>],
 ) -> Result<Option<Sequence<Event>>, AllocError>
     requires { (d : Declared) × IsSpelledSound text.now d }
-    ensures { IfOk result (λ found. IfSome found (λ events. (d : Declared) → IsSpelledSound text.now d → Reaches d place goal events)) }
+    ensures { IfOk result (λ found. IfSome found (λ events. (d : Declared) → IsSpelledSound text.now d → IsFoundWay d place goal events)) }
 {
     for steps in ways {
         let Some(app) = start(alloc, text)? else {
@@ -104,7 +118,8 @@ fn never_at(
     requires sound { HasSoundDialogs desc.now }
     requires rise { DialogsRise desc.now }
     requires there { slice_get desc.now.dialogs place ≡ Some outline.now.dialog.now }
-    ensures { IfOk result (IsAnswer desc.now place goal) }
+    ensures answer { IfOk result (IsAnswer desc.now place goal) }
+    ensures sayable { IfOk result (HasSayableWay desc.now) }
 {
     never_reached(desc);
     Ok(match never(alloc, desc, outline, goal)? {
@@ -114,7 +129,8 @@ fn never_at(
 }
 
 /// Answers whether events reach the goal in the dialog at the place, counted from 0, of the description that the text
-/// spells: by such events, which were made and have reached it; by why there are none; or not, where that was given up.
+/// spells: by such events, which were made and have reached it, and which a script can say; by why there are none; or not, where
+/// that was given up.
 pub fn answer(
     alloc: Global,
     text: &[u8],
@@ -123,7 +139,8 @@ pub fn answer(
     goal: Goal,
 ) -> Result<Answer, AllocError>
     requires { IsSpelledSound text.now desc.now }
-    ensures { IfOk result (IsAnswer desc.now place goal) }
+    ensures answer { IfOk result (IsAnswer desc.now place goal) }
+    ensures sayable { IfOk result (HasSayableWay desc.now) }
 {
     let Some(dialog) = dialog_at(desc, place) else {
         return Ok(Answer::Unknown);

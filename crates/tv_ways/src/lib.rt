@@ -27,4 +27,4 @@ pub use idle::idle_commands;
 pub use listing::{put_way, put_ways};
 pub use refusing::{Refusal, unseen_refusal};
 pub use seen::cuts_are_lost;
-pub use wording::{put_events, put_script};
+pub use wording::{put_events, put_script, ways_are_scripts};

@@ -12,6 +12,7 @@ use crate::outline::Outline;
 use crate::path::Step;
 use crate::running::{dialog_at, focus_in, make_all};
 use crate::way::ways_by_sight;
+use crate::wording::are_sayable;
 use std::alloc::{AllocError, Global};
 use tv_app::App;
 use tv_event::{Command, Event};
@@ -62,7 +63,11 @@ fn refusal_after(
     let Some(input) = refusing_unseen(&app, place) else {
         return Ok(None);
     };
-    Ok(Some(Refusal { input, events }))
+    Ok(if are_sayable(app.desc(), events.as_slice()) {
+        Some(Refusal { input, events })
+    } else {
+        None
+    })
 }
 
 // What refuses after the first of these ways after which something does.

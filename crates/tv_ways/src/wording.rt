@@ -1,12 +1,58 @@
 //! Events, as words and as scripts.
 
-ghost use Rattle.std.specs.Prelude.{◌≡◌, None};
+ghost use Rattle.std.specs.Prelude.{◌≡◌, IsTrue, None};
 ghost use Rattle.tv_io.specs.Pen.{Puts};
-ghost use Rattle.tv_ways.specs.Wording.{between, closing, is_typed, is_typing, next_words, opening, script_text, typed_text, way_words, words_after};
+ghost use Rattle.tv_script.specs.Tapes.{IsPointOf, IsSayable, IsSayableKey};
+ghost use Rattle.tv_ways.specs.Wording.{AreSayable, WaysAreScripts, between, closing, is_typed, is_typing, next_words, opening, script_text, typed_text, way_words, words_after};
 
+use tv_cells::Point;
 use tv_event::{Event, Key};
 use tv_io::{Pen, Writer};
+use tv_model::Desc;
 use tv_script::{put_escaped_char, put_event};
+
+// Whether a key has a name, or a character may stand in a line.
+fn is_sayable_key(key: Key) -> bool
+    ensures { IsTrue result → IsSayableKey key }
+{
+    match key {
+        Key::Ctrl(letter) => letter.is_ascii_uppercase(),
+        Key::Function(number) => 1 <= number && number <= 12,
+        Key::Alt(ch) => ch.is_ascii_uppercase() || ch.is_ascii_digit(),
+        Key::Char(ch) => !ch.is_control(),
+        _ => true,
+    }
+}
+
+// Whether the point is on the description's screen.
+fn is_on_screen(desc: &Desc, point: Point) -> bool
+    ensures { IsTrue result → IsPointOf desc.now.width desc.now.height point }
+{
+    0 <= point.x && point.x < desc.width && 0 <= point.y && point.y < desc.height
+}
+
+// Whether a script for the description's screen can say the event.
+fn is_sayable(desc: &Desc, event: &Event) -> bool
+    ensures { IsTrue result → IsSayable desc.now.width desc.now.height event.now }
+{
+    match event {
+        Event::Key(key) => is_sayable_key(*key),
+        Event::Down(point) | Event::Move(point) | Event::Up(point) => is_on_screen(desc, *point),
+        Event::Command(_) | Event::Broadcast(_) => false,
+    }
+}
+
+/// Whether a script for the description's screen can say these events.
+pub(crate) fn are_sayable(desc: &Desc, events: &[Event]) -> bool
+    ensures { IsTrue result → AreSayable desc.now events.now }
+{
+    for event in events {
+        if !is_sayable(desc, event) {
+            return false;
+        }
+    }
+    true
+}
 
 /// Writes events in a line, with semicolons between.
 pub fn put_events<W: Writer>(pen: &mut Pen<W>, events: &[Event])
@@ -104,3 +150,9 @@ fn put_next<W: Writer>(pen: &mut Pen<W>, separator: &[u8], before: Option<Event>
         put_event(pen, event);
     }
 }
+
+/// A theorem, as a function without a body: what `put_script` writes of events that a script can say, as those of each way are,
+/// spells the script of these events, where there are no more of them, and of its bytes, than a script may have.
+pub fn ways_are_scripts()
+    ensures { WaysAreScripts }
+{}

@@ -5,8 +5,8 @@ use Rattle.tv_reach.specs.Answers.{IsNever}
 use Rattle.tv_ways.proofs.answering.never_at.Goals as goal
 use Rattle.tv_ways.proofs.answering.never_at.Goals.{in-Some, in-None}
 
-pub returns : goal.returns
-returns c =
+pub returns-clause-answer : goal.returns-clause-answer
+returns-clause-answer c =
     let dialog = c.args.outline.now.dialog.now in
     elim c.match-branch-2.branch [
       | in-Some w ↦
@@ -17,5 +17,12 @@ returns c =
             never = found;
             unreached = c.never_reached.ensures c.args.place dialog found.0 c.args.goal w.in-Some.reason c.requires.there found.1 found.2;
           })
+      | in-None w ↦ rw w.result-is tt
+    ]
+
+pub returns-clause-sayable : goal.returns-clause-sayable
+returns-clause-sayable c =
+    elim c.match-branch-2.branch [
+      | in-Some w ↦ rw w.result-is tt
       | in-None w ↦ rw w.result-is tt
     ]
