@@ -15,26 +15,24 @@ fn text_in(alloc: Global, out: Gathering) -> Result<String, AllocError> {
     }
 }
 
-fn line_of(alloc: Global, events: &[Event]) -> Result<String, AllocError> {
-    let mut out = Gathering::new(alloc);
-    let mut pen = Pen {
-        out: &mut out,
-        stopped: false,
-    };
-    put_events(&mut pen, events);
-    if pen.stopped {
-        return Err(AllocError);
-    }
-    text_in(alloc, out)
+/// How events are written.
+#[derive(Clone, Copy)]
+enum Form {
+    /// In a line, with semicolons between.
+    Line,
+    Script,
 }
 
-fn script_of(alloc: Global, events: &[Event]) -> Result<String, AllocError> {
+fn written(alloc: Global, events: &[Event], form: Form) -> Result<String, AllocError> {
     let mut out = Gathering::new(alloc);
     let mut pen = Pen {
         out: &mut out,
         stopped: false,
     };
-    put_script(&mut pen, events);
+    match form {
+        Form::Line => put_events(&mut pen, events),
+        Form::Script => put_script(&mut pen, events),
+    }
     if pen.stopped {
         return Err(AllocError);
     }
@@ -44,7 +42,7 @@ fn script_of(alloc: Global, events: &[Event]) -> Result<String, AllocError> {
 /// Returns the words of the events, in a line and as a script.
 pub(crate) fn met_by(alloc: Global, events: &[Event]) -> Result<Met, AllocError> {
     Ok(Met {
-        way: line_of(alloc, events)?,
-        script: script_of(alloc, events)?,
+        way: written(alloc, events, Form::Line)?,
+        script: written(alloc, events, Form::Script)?,
     })
 }
