@@ -6,13 +6,13 @@ ghost use Rattle.std.specs.Ordering.{int_eq};
 ghost use Rattle.tv_model.specs.Description.Heads.{window_head};
 ghost use Rattle.tv_model.specs.Description.Letters.{marked_of};
 ghost use Rattle.tv_model.specs.Description.Marks.{marks};
-ghost use Rattle.tv_model.specs.Faults.Letters.{is_same_key, is_window_digit};
+ghost use Rattle.tv_model.specs.Faults.Letters.{is_window_digit};
 ghost use Rattle.tv_explain.specs.Keys.{digit_line, key_holder, key_why, marker_line, number_line, number_why, shortcut_line, taken_why, menu_marking};
 
 use crate::lines::line_of;
 use crate::why::{Reason, Why};
 use tv_event::Key;
-use tv_model::{Desc, Dialog, MarkedText, Menu, Node, StatusItem, Window};
+use tv_model::{Desc, Dialog, MarkedText, Menu, Node, StatusItem, Window, is_same_key};
 use tv_names::{is_status_key, marked_of};
 
 // Whether one of the texts marks the letter.
@@ -75,18 +75,6 @@ fn digit_line(digit: char, windows: &[Window]) -> Option<u32>
 {
     let window = windows.iter().find(|window| is_window_digit(digit, window));
     window.map(|window| window.node.id.0)
-}
-
-// Whether the two are the same key of those that a status item may have.
-fn is_same_key(key: Key, other: Key) -> bool
-    ensures { result ≡ is_same_key key other }
-{
-    match (key, other) {
-        (Key::Function(number), Key::Function(other)) => number == other,
-        (Key::Ctrl(letter), Key::Ctrl(other)) => letter == other,
-        (Key::Alt(ch), Key::Alt(other)) => ch == other,
-        _ => false,
-    }
 }
 
 // The first of the status items that has the key.

@@ -20,7 +20,7 @@ use std::alloc::{AllocError, Global};
 use tv_cells::{Point, Rect};
 use tv_event::{CommandSet, Event, Key};
 use tv_faces::rect_at;
-use tv_model::{Desc, StatusItem, natural};
+use tv_model::{Desc, StatusItem, is_same_key, natural};
 use tv_view::contains;
 
 fn copy_item(item: &StatusItem, alloc: Global) -> Result<StatusItem, AllocError>
@@ -32,18 +32,6 @@ fn copy_item(item: &StatusItem, alloc: Global) -> Result<StatusItem, AllocError>
         key: item.key,
         command: item.command,
     })
-}
-
-// Whether they are the same key of those that a status item may have.
-fn is_same_key(item: Key, key: Key) -> bool
-    ensures { result ≡ is_same_key item key }
-{
-    match (item, key) {
-        (Key::Function(number), Key::Function(other)) => number == other,
-        (Key::Ctrl(ch), Key::Ctrl(other)) => ch == other,
-        (Key::Alt(ch), Key::Alt(other)) => ch == other,
-        _ => false,
-    }
 }
 
 /// Whether the set has the command of an item.

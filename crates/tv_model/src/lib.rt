@@ -7,6 +7,7 @@ mod copy;
 mod desc;
 mod fault;
 mod items;
+mod keys;
 mod kind;
 mod log;
 mod node;
@@ -20,6 +21,7 @@ pub use desc::{
 };
 pub use fault::{Fault, FaultKind};
 pub use items::is_item;
+pub use keys::is_same_key;
 pub use kind::{
     Button, CheckBoxes, DialogHead, Input, Kind, Label, ListBox, MarkedText, Pane, RadioButtons,
     StaticText, WindowHead,

@@ -26,22 +26,28 @@ use Rattle.tv_terminal.specs.declared.action.Action.TheVariants.{Event, Quit, Re
 abbrev pub session_at : Session → List Happening → Session
 session_at s events = states stepped s events
 
--- ---- the screen is painted anew
+-- ---- the player's own keys
+
+-- Ctrl-C
+abbrev pub interrupt : Key
+interrupt = keys.Ctrl 67
 
 -- Ctrl-L
 abbrev pub refresh : Key
 refresh = keys.Ctrl 76
 
--- a status item has it
-abbrev pub has_refresh : Desc → Bool
-has_refresh d = list_any (λ item. is_same_key item.key refresh) d.status
+-- the key is this one, and no status item has it
+abbrev pub is_unclaimed : Desc → (own key : Key) → Bool
+is_unclaimed d own key = is_same_key key own && not (list_any (λ item. is_same_key item.key own) d.status)
+
+-- ---- the screen is painted anew
 
 -- where the terminal reports, and by Ctrl-L where no status item has that key
 abbrev pub is_refreshing : Desc → Action → Bool
 is_refreshing d Quit = false
 is_refreshing d Ready = true
 is_refreshing d (Resized size) = true
-is_refreshing d (Event (events.Key k)) = is_same_key k refresh && not (has_refresh d)
+is_refreshing d (Event (events.Key k)) = is_unclaimed d refresh k
 is_refreshing d (Event event) = false
 
 -- the events that are performed among actions: all but those, brought to the screen
@@ -62,20 +68,12 @@ script_of d actions = script_with (events_in d actions)
 
 -- ---- the user leaves
 
--- Ctrl-C
-abbrev pub interrupt : Key
-interrupt = keys.Ctrl 67
-
--- a status item has it
-abbrev pub has_interrupt : Desc → Bool
-has_interrupt d = list_any (λ item. is_same_key item.key interrupt) d.status
-
 -- by Ctrl-\ always, and by Ctrl-C where no status item has that key
 abbrev pub is_leaving : Desc → Action → Bool
 is_leaving d Quit = true
 is_leaving d Ready = false
 is_leaving d (Resized size) = false
-is_leaving d (Event (events.Key k)) = is_same_key k interrupt && not (has_interrupt d)
+is_leaving d (Event (events.Key k)) = is_unclaimed d interrupt k
 is_leaving d (Event event) = false
 
 -- what an action is taken for

@@ -4,11 +4,11 @@ ghost use Rattle.std.specs.Prelude.{◌≡◌, is_some};
 ghost use Rattle.std.specs.List.{list_any};
 ghost use Rattle.tv_machine.specs.Run.{Session};
 ghost use Rattle.tv_model.specs.Faults.Letters.{is_same_key};
-ghost use Rattle.tv_play.specs.Ends.{IsTakenFor, has_interrupt, has_no_bars, has_refresh, interrupt, is_finished, is_leaving, is_quit, is_refreshing, nothing_can_happen, refresh};
+ghost use Rattle.tv_play.specs.Ends.{IsTakenFor, has_no_bars, is_finished, is_leaving, is_quit, is_refreshing, is_unclaimed, nothing_can_happen};
 
 use crate::live::Live;
 use tv_event::{Event, Key};
-use tv_model::{Desc, Id, LogLine, StatusItem};
+use tv_model::{Desc, Id, LogLine, is_same_key};
 use tv_terminal::Action;
 
 // Whether the line says that the run is over.
@@ -46,22 +46,25 @@ pub(crate) fn is_finished<L: Live>(stage: &L) -> bool
     nothing_can_happen(stage.desc(), stage.log(), stage.focus())
 }
 
-fn is_interrupt(key: Key) -> bool
-    ensures { result ≡ is_same_key key interrupt }
+const INTERRUPT: Key = Key::Ctrl('C');
+
+const REFRESH: Key = Key::Ctrl('L');
+
+// Whether a status item has the key.
+fn has_item(desc: &Desc, key: Key) -> bool
+    ensures { result ≡ list_any (λ item. is_same_key item.key key) desc.now.status }
 {
-    matches!(key, Key::Ctrl('C'))
+    desc.status
+        .as_slice()
+        .iter()
+        .any(|item| is_same_key(item.key, key))
 }
 
-fn is_for_interrupt(item: &StatusItem) -> bool
-    ensures { result ≡ is_same_key item.now.key interrupt }
+// Whether the key is this one, and no status item has it.
+fn is_unclaimed(desc: &Desc, own: Key, key: Key) -> bool
+    ensures { result ≡ is_unclaimed desc.now own key }
 {
-    is_interrupt(item.key)
-}
-
-fn has_interrupt(desc: &Desc) -> bool
-    ensures { result ≡ has_interrupt desc.now }
-{
-    desc.status.as_slice().iter().any(is_for_interrupt)
+    is_same_key(key, own) && !has_item(desc, own)
 }
 
 // Whether the user leaves with it.
@@ -70,27 +73,9 @@ fn is_leaving(desc: &Desc, action: Action) -> bool
 {
     match action {
         Action::Quit => true,
-        Action::Event(Event::Key(key)) => is_interrupt(key) && !has_interrupt(desc),
+        Action::Event(Event::Key(key)) => is_unclaimed(desc, INTERRUPT, key),
         Action::Event(_) | Action::Ready | Action::Resized(_) => false,
     }
-}
-
-fn is_refresh(key: Key) -> bool
-    ensures { result ≡ is_same_key key refresh }
-{
-    matches!(key, Key::Ctrl('L'))
-}
-
-fn is_for_refresh(item: &StatusItem) -> bool
-    ensures { result ≡ is_same_key item.now.key refresh }
-{
-    is_refresh(item.key)
-}
-
-fn has_refresh(desc: &Desc) -> bool
-    ensures { result ≡ has_refresh desc.now }
-{
-    desc.status.as_slice().iter().any(is_for_refresh)
 }
 
 // Whether the screen is painted anew with it.
@@ -99,7 +84,7 @@ fn is_refreshing(desc: &Desc, action: Action) -> bool
 {
     match action {
         Action::Ready | Action::Resized(_) => true,
-        Action::Event(Event::Key(key)) => is_refresh(key) && !has_refresh(desc),
+        Action::Event(Event::Key(key)) => is_unclaimed(desc, REFRESH, key),
         Action::Event(_) | Action::Quit => false,
     }
 }
