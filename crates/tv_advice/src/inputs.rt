@@ -133,12 +133,12 @@ fn start_item(alloc: Global, start: StartItem) -> Result<Saying, AllocError> {
 
 // The place of the first of the items that isn't there, and that item.
 fn first_missing(start: &[i32], count: usize) -> (usize, i32) {
-    for (i, item) in start.iter().enumerate() {
-        if !is_item(item, count) {
-            return (i, *item);
-        }
-    }
-    (0, 0)
+    start
+        .iter()
+        .copied()
+        .enumerate()
+        .find(|(_, item)| !is_item(item, count))
+        .unwrap_or((0, 0))
 }
 
 fn start_text(alloc: Global, input: &Input) -> Result<Saying, AllocError> {

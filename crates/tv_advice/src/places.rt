@@ -123,12 +123,7 @@ fn place_text(alloc: Global, node: &Node) -> Result<String, AllocError> {
 
 // Where the node could begin, of these places of it.
 fn free_place(index: &Index, node: &Node, room: Room, places: [Room; 2]) -> Option<Room> {
-    for place in places {
-        if place.is_within(room) && is_free(index, node, place) {
-            return Some(place);
-        }
-    }
-    None
+    places.into_iter().find(|place| place.is_within(room) && is_free(index, node, *place))
 }
 
 // How many columns the node could be narrower, so as to end before the other one.

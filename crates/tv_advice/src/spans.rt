@@ -123,11 +123,7 @@ pub fn line_of(text: &[u8], number: usize) -> &str {
 
 /// Returns what can be read of each line of a text.
 pub fn lines_of(alloc: Global, text: &[u8]) -> Result<Vec<&str>, AllocError> {
-    let mut lines = Vec::new(alloc);
-    for line in Lines::new(text) {
-        lines.push(readable(line))?;
-    }
-    Ok(lines)
+    Lines::new(text).map(readable).collect(alloc)
 }
 
 /// Returns the line of this number among these, counted from 1, or an empty one where there is none.

@@ -14,11 +14,9 @@ use tv_valid::{Chars, Sequence};
 pub(crate) fn tag_columns(items: &[Item]) -> u8
     ensures { result ≡ tag_columns items.now }
 {
-    let mut columns = 0;
-    for item in items {
-        columns = columns.max(size(item.tag.as_slice().len()));
-    }
-    columns
+    items.iter().fold(0, |columns, item| {
+        columns.max(size(item.tag.as_slice().len()))
+    })
 }
 
 fn push_spaces(row: &mut Vec<char>, count: u8) -> Result<(), AllocError>

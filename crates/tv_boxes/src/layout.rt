@@ -43,11 +43,9 @@ pub(crate) fn wrap_columns(request: &Request) -> u8
 fn behind_columns(items: &[Item]) -> u8
     ensures { result ≡ behind_columns items.now }
 {
-    let mut columns = 0;
-    for item in items {
-        columns = columns.max(size(item.text.as_slice().len()));
-    }
-    columns
+    items.iter().fold(0, |columns, item| {
+        columns.max(size(item.text.as_slice().len()))
+    })
 }
 
 // The columns of items, one below another.
@@ -70,21 +68,17 @@ fn field_end(field: &FormField) -> u8
 fn form_columns(fields: &[FormField]) -> u8
     ensures { result ≡ form_columns fields.now }
 {
-    let mut columns = 0;
-    for field in fields {
-        columns = columns.max(field_end(field));
-    }
-    columns
+    fields
+        .iter()
+        .fold(0, |columns, field| columns.max(field_end(field)))
 }
 
 fn form_rows(fields: &[FormField]) -> u8
     ensures { result ≡ form_rows fields.now }
 {
-    let mut rows = 0;
-    for field in fields {
-        rows = rows.max(field.row.max(field.label_row));
-    }
-    rows
+    fields
+        .iter()
+        .fold(0, |rows, field| rows.max(field.row.max(field.label_row)))
 }
 
 // The columns of items behind their marks.

@@ -16,9 +16,7 @@ pub(crate) fn size(count: usize) -> u8
 pub(crate) fn longest(texts: &[Chars]) -> u8
     ensures { result ≡ longest texts.now }
 {
-    let mut columns = 0;
-    for text in texts {
-        columns = columns.max(size(text.as_slice().len()));
-    }
-    columns
+    texts.iter().fold(0, |columns, text| {
+        columns.max(size(text.as_slice().len()))
+    })
 }

@@ -83,13 +83,7 @@ pub(crate) fn why_unfit(request: &Request, desc: &Desc) -> Option<Unfit> {
 
 // What can't be shown of the first view of which something can't.
 fn unfit_view(views: &[Node]) -> Option<Unfit> {
-    for view in views {
-        let found = unfit_kind(&view.kind);
-        if found.is_some() {
-            return found;
-        }
-    }
-    None
+    views.iter().find_map(|view| unfit_kind(&view.kind))
 }
 
 fn unfit_kind(kind: &Kind) -> Option<Unfit> {
@@ -134,23 +128,17 @@ fn unfit_start(start: &[char], most: i32) -> Option<Unfit> {
 }
 
 fn unfit_items(items: &[MarkedText]) -> Option<Unfit> {
-    for item in items {
-        let found = unfit_marked(Part::Item, item);
-        if found.is_some() {
-            return found;
-        }
-    }
-    unfit_count(items.len(), 16)
+    items
+        .iter()
+        .find_map(|item| unfit_marked(Part::Item, item))
+        .or(unfit_count(items.len(), 16))
 }
 
 fn unfit_rows(items: &[Chars]) -> Option<Unfit> {
-    for item in items {
-        let found = unfit_text(Part::Item, item.as_slice());
-        if found.is_some() {
-            return found;
-        }
-    }
-    unfit_count(items.len(), 100)
+    items
+        .iter()
+        .find_map(|item| unfit_text(Part::Item, item.as_slice()))
+        .or(unfit_count(items.len(), 100))
 }
 
 fn unfit_count(count: usize, most: usize) -> Option<Unfit> {

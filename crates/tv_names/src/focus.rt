@@ -46,11 +46,12 @@ fn reaches(alloc: Global, dialog: &Dialog) -> Result<Vec<Reach>, AllocError>
     ensures { IfOk result (λ list. list.items ≡ map (reach_of dialog.now.views) dialog.now.rules) }
 {
     let names = Names::new(alloc, dialog.views.as_slice())?;
-    let mut list = Vec::new(alloc);
-    for rule in dialog.rules.as_slice() {
-        list.push(Reach::of(&names, rule))?;
-    }
-    Ok(list)
+    dialog
+        .rules
+        .as_slice()
+        .iter()
+        .map(|rule| Reach::of(&names, rule))
+        .collect(alloc)
 }
 
 // The views that rules show, without those that stand in them.

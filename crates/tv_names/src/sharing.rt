@@ -81,26 +81,21 @@ fn show_rules(alloc: Global, views: &[Node], rules: &[Rule]) -> Result<Vec<ShowR
     ensures { IfOk result (λ shown. shown.items ≡ show_rules_of views.now rules.now) }
 {
     let names = Names::new(alloc, views)?;
-    let mut shown = Vec::new(alloc);
-    for rule in rules {
-        if let Some(own) = show_rule(&names, rule) {
-            shown.push(own)?;
-        }
-    }
-    Ok(shown)
+    rules
+        .iter()
+        .filter_map(|own| show_rule(&names, own))
+        .collect(alloc)
 }
 
 // Those of the rules that go by the marks of this cluster.
 fn rules_by(alloc: Global, rules: &[ShowRule], cluster: Id) -> Result<Vec<ShowRule>, AllocError>
     ensures { IfOk result (λ own. own.items ≡ filter (goes_by cluster) rules.now) }
 {
-    let mut own = Vec::new(alloc);
-    for rule in rules {
-        if rule.cluster == cluster {
-            own.push(*rule)?;
-        }
-    }
-    Ok(own)
+    rules
+        .iter()
+        .filter(|own| own.cluster == cluster)
+        .copied()
+        .collect(alloc)
 }
 
 fn is_radios(kind: &Kind) -> bool
@@ -131,13 +126,7 @@ fn groups<'a>(
 fn times(letter: char, texts: &[MarkedText]) -> usize
     ensures { result ≡ length (filter (marks letter) texts.now) }
 {
-    let mut times = 0;
-    for text in texts {
-        if marks(letter, text) {
-            times += 1;
-        }
-    }
-    times
+    texts.iter().filter(|text| marks(letter, text)).count()
 }
 
 fn marked_times(letter: char, view: &Node) -> usize
@@ -241,12 +230,8 @@ fn is_over(rule: &ShowRule, ids: &[Id]) -> bool
 fn first_item(rules: &[ShowRule], ids: &[Id]) -> Option<i32>
     ensures { result ≡ first_item rules.now ids.now }
 {
-    for rule in rules {
-        if is_over(rule, ids) {
-            return Some(rule.item);
-        }
-    }
-    None
+    let over = rules.iter().find(|rule| is_over(rule, ids))?;
+    Some(over.item)
 }
 
 // Whether the radio buttons have another item for each of the views at these places.

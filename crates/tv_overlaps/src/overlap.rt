@@ -38,11 +38,7 @@ fn placed(alloc: Global, views: &[Node], owners: &[usize]) -> Result<Vec<Placed>
 fn last_owner(items: &[Placed]) -> usize
     ensures { result ≡ fold (λ last item. max last item.owner) 0 items.now }
 {
-    let mut last = 0;
-    for item in items {
-        last = last.max(item.owner);
-    }
-    last
+    items.iter().fold(0, |last, item| last.max(item.owner))
 }
 
 // Which views overlap an earlier sibling and may not, where siblings have the same number.

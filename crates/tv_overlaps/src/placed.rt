@@ -48,20 +48,16 @@ pub fn weight(kind: &Kind) -> u8
 pub fn columns_of(items: &[Placed]) -> Span
     ensures { result ≡ fold (λ span item. span_of_both span item.columns) nowhere items.now }
 {
-    let mut columns = Span::EMPTY;
-    for item in items {
-        columns = columns.around(&item.columns);
-    }
-    columns
+    items
+        .iter()
+        .fold(Span::EMPTY, |columns, item| columns.around(&item.columns))
 }
 
 /// Returns the rows of all items and those between.
 pub fn rows_of(items: &[Placed]) -> Span
     ensures { result ≡ fold (λ span item. span_of_both span item.rows) nowhere items.now }
 {
-    let mut rows = Span::EMPTY;
-    for item in items {
-        rows = rows.around(&item.rows);
-    }
-    rows
+    items
+        .iter()
+        .fold(Span::EMPTY, |rows, item| rows.around(&item.rows))
 }

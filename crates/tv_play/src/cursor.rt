@@ -22,13 +22,7 @@ pub fn find_cursor(screen: &Screen, first: &[Rect]) -> Option<Point>
 fn find_in_rects(screen: &Screen, rects: &[Rect]) -> Option<Point>
     ensures { IfSome result (λ point. IsCursorAt screen.now point) }
 {
-    for rect in rects {
-        let point = find_in_rect(screen, rect);
-        if point.is_some() {
-            return point;
-        }
-    }
-    None
+    rects.iter().find_map(|rect| find_in_rect(screen, rect))
 }
 
 fn find_in_rect(screen: &Screen, rect: &Rect) -> Option<Point>

@@ -1,6 +1,0 @@
-use Rattle.std.proofs.Common.{◌≡◌, fold, take}
-use Rattle.tv_overlaps.specs.Marks.{span_of_both, nowhere}
-use Rattle.tv_overlaps.proofs.placed.rows_of.Given as goal
-
-abbrev pub invariant-loop-item : goal.invariant-loop-item
-invariant-loop-item l = l.rows ≡ fold (λ span item. span_of_both span item.rows) nowhere (take l.item-index l.items)
