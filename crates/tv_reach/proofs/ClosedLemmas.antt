@@ -1,5 +1,5 @@
 -- Lists of masks that the code finds closed are closed.
-use Rattle.std.proofs.Common.{◌≡◌, ◌↔◌, ◌⊎◌, inl, inr, ℕ, ◌+◌, ◌<◌, ◌≤◌, Bool, true, false, nat_lt, ◌&&◌, ◌==◌, List, [], ◌∷◌, find, get_or, length, take, Some, None, option_map, refl, sym, ap, subst, ◌∙◌, All, Any, arith}
+use Rattle.std.proofs.Common.{◌≡◌, ◌↔◌, ◌⊎◌, inl, inr, ℕ, zero, suc, ◌+◌, ◌<◌, ◌≤◌, Bool, true, false, nat_lt, ◌&&◌, ◌==◌, List, [], ◌∷◌, find, get_or, length, take, Some, None, option_map, refl, sym, ap, subst, ◌∙◌, All, Any, arith}
 use Rattle.std.specs.List.{AllZip}
 use Rattle.std.specs.Prelude.{slice_get}
 use Rattle.std.proofs.lemmas.Bool.{and_parts, false≢true, true≢false}
@@ -28,9 +28,13 @@ use Rattle.tv_reach.specs.Masks.{Covers, HasRule, IsClosed, IsFollowed, may_hold
 use Rattle.tv_reach.specs.Shown.{AreClosed, AreShownLeaves, HasStarting, IsLeafFollowed, IsMaskOf, IsMoved, IsPart, IsRuleFollowed, IsShownLeaf, LeadsIn, is_own_in}
 use Rattle.tv_reach.proofs.MaskLemmas.{any-weaker}
 
-both_true : (a b : Bool) → a ≡ true → b ≡ true → (a && b) ≡ true
+pub both_true : (a b : Bool) → a ≡ true → b ≡ true → (a && b) ≡ true
 both_true true b p q = q
 both_true false b p q = absurd (false≢true p)
+
+pub one_of : {A B C : Type 0} → (A → C) → (B → C) → A ⊎ B → C
+one_of f g (inl a) = f a
+one_of f g (inr b) = g b
 
 -- ---- loops over lists
 
@@ -51,6 +55,21 @@ zip_all R Q S gives (x ∷ xs) [] zip all = absurd zip
 zip_all R Q S gives (x ∷ xs) (y ∷ ys) zip all =
     All-cons S x xs (gives x y zip.0 (All-head Q y ys all)) (zip_all R Q S gives xs ys zip.1 (All-tail Q y ys all))
 
+-- and the other way
+pub zip_gives : {A B : Type 0} (R : A → B → Type 0) (S : A → Type 0) (Q : B → Type 0) → ((x : A) (y : B) → R x y → S x → Q y)
+    → (xs : List A) (ys : List B) → AllZip R xs ys → All S xs → All Q ys
+zip_gives R S Q gives [] [] zip all = All-nil Q
+zip_gives R S Q gives [] (y ∷ ys) zip all = absurd zip
+zip_gives R S Q gives (x ∷ xs) [] zip all = All-nil Q
+zip_gives R S Q gives (x ∷ xs) (y ∷ ys) zip all =
+    All-cons Q y ys (gives x y zip.0 (All-head S x xs all)) (zip_gives R S Q gives xs ys zip.1 (All-tail S x xs all))
+
+-- there is an item at each place before the end
+there_is : {A : Type 0} (xs : List A) (i : ℕ) → i < length xs → (x : A) × (slice_get xs i ≡ Some x)
+there_is [] i less = absurd (omega (arith, less))
+there_is (x ∷ xs) zero less = (x, refl)
+there_is (x ∷ xs) (suc i) less = there_is xs i (omega (arith, less))
+
 -- ---- a choice
 
 -- a mask with the moved rules has what the choice and the rest have
@@ -59,7 +78,34 @@ pub part_moved : (own choice mask rest moved : Mask) → ((k : ℕ) → HasRule 
 part_moved own choice mask rest moved without union other part place (inl chosen) = part place ((union place).1 (inr chosen))
 part_moved own choice mask rest moved without union other part place (inr kept) = part place ((union place).1 (inl ((without place).1 kept)))
 
+-- a mask with what the choice and the rest have, has the moved rules
+pub moved_part : (own choice mask rest moved : Mask) → ((k : ℕ) → HasRule rest k ↔ (HasRule mask k × (HasRule own k → ⊥)))
+    → ((k : ℕ) → HasRule moved k ↔ (HasRule rest k ⊎ HasRule choice k)) → (other : Mask) → IsMoved own choice mask other → IsPart moved other
+moved_part own choice mask rest moved without union other leads place has =
+    leads place (one_of (λ kept. inr ((without place).0 kept)) (λ chosen. inl chosen) ((union place).0 has))
+
 module _ (views : List Node) (rules : List Rule) (node : Node) where
+  -- a rule that a mask of the node's own lacks is another's
+  not_own : (own : Mask) (place : ℕ) (rule : Rule) → IsMaskOf (is_own_in views node) rules own → slice_get rules place ≡ Some rule
+      → (HasRule own place → ⊥) → is_own_in views node rule ≡ false
+  not_own own place rule owns there lacks = of (is_own_in views node rule) refl
+    where
+      of : (b : Bool) → is_own_in views node rule ≡ b → b ≡ false
+      of true e = absurd (lacks ((owns place).1 (rule, there, e)))
+      of false e = refl
+
+  -- a choice that is followed has its mask
+  pub leads_moved : (item : ℕ) (own choice mask : Mask) → IsMaskOf (is_own_in views node) rules own
+      → IsMaskOf (λ rule. is_own_in views node rule && may_hold node.kind item rule) rules choice
+      → ((place : ℕ) → HasRule mask place → place < length rules)
+      → (other : Mask) → LeadsIn views rules node item mask other → IsMoved own choice mask other
+  leads_moved item own choice mask owns chooses within other leads place (inl chosen) =
+      let passes = (chooses place).0 chosen in
+      leads place passes.0 passes.1 (inl (and_parts (is_own_in views node passes.0) (may_hold node.kind item passes.0) passes.2))
+  leads_moved item own choice mask owns chooses within other leads place (inr kept) =
+      let at = there_is rules place (within place kept.0) in
+      leads place at.0 at.1 (inr (not_own own place at.0 owns at.1 kept.1, kept.0))
+
   -- a choice whose mask is had is followed
   pub moved_leads : (item : ℕ) (own choice mask : Mask) → IsMaskOf (is_own_in views node) rules own
       → IsMaskOf (λ rule. is_own_in views node rule && may_hold node.kind item rule) rules choice
@@ -135,15 +181,18 @@ module _ (d : Dialog) (masks : List Mask) (leaves : List ShownLeaf) (shown : Are
 
   start_has : (place : ℕ) (rule : Rule) → slice_get d.rules place ≡ Some rule → holds d (opened_leaves d None) rule ≡ true → HasRule c.start place
   start_has place rule there on =
-      let marked = (and_parts (nat_lt 0 (natural rule.item)) (is_marked_at (opened_leaves d None) (natural rule.item) (meant d.views rule.cluster)) on).1 in
+      let parts = and_parts (nat_lt 0 (natural rule.item)) (is_marked_at (opened_leaves d None) (natural rule.item) (meant d.views rule.cluster)) on in
       option_cases (meant d.views rule.cluster)
       (λ o. meant d.views rule.cluster ≡ o → is_marked_at (opened_leaves d None) (natural rule.item) o ≡ true → HasRule c.start place)
       (λ is none e. absurd (false≢true e))
       (λ node is named e.
       of node named
       (sym (ap (λ o. is_marked (content_by false o).value (natural rule.item)) (find-map declared (has state_id node.id) (leaf_list d.views))) ∙ e))
-      refl marked
+      refl parts.1
     where
+      least : nat_lt 0 (natural rule.item) ≡ true
+      least = (and_parts (nat_lt 0 (natural rule.item)) (is_marked_at (opened_leaves d None) (natural rule.item) (meant d.views rule.cluster)) on).0
+
       of : (node : Node) → meant d.views rule.cluster ≡ Some node
           → is_marked (content_by false (option_map declared (find (has leaf_id node.id) (leaf_list d.views)))).value (natural rule.item) ≡ true
           → HasRule c.start place
@@ -156,8 +205,12 @@ module _ (d : Dialog) (masks : List Mask) (leaves : List ShownLeaf) (shown : Are
           let ids : leaf.node.id ≡ node.id = same-id leaf.node.id node.id (found-passes (has leaf_id node.id) (leaf_list d.views) leaf found) in
           let own : is_own_in d.views leaf.node rule ≡ true
           = ap (is_view leaf.node.id) named ∙ ap (λ i. i.0 == leaf.node.id.0) (sym ids) ∙ id-itself leaf.node.id in
-          found_starts leaf (has leaf_id node.id) (leaf_list d.views) leaves shown c.has found place
-          (rule, there, both_true (is_own_in d.views leaf.node rule) (is_marked (declared_value leaf.node.kind) (natural rule.item)) own f))
+          found_starts leaf (has leaf_id node.id) (leaf_list d.views) leaves shown c.has found place (
+            rule,
+            there,
+            both_true (is_own_in d.views leaf.node rule) (nat_lt 0 (natural rule.item) && is_marked (declared_value leaf.node.kind) (natural rule.item)) own
+                (both_true (nat_lt 0 (natural rule.item)) (is_marked (declared_value leaf.node.kind) (natural rule.item)) least f),
+          ))
           refl e
 
   leaf_followed : (leaf : PlacedNode) (y : ShownLeaf) → IsShownLeaf d.views d.rules leaf y → IsLeafFollowed d.views d.rules masks y

@@ -15,3 +15,4 @@ mod NeverLemmas
 mod StartLemmas
 mod ClosedLemmas
 mod FoundLemmas
+mod ExactLemmas

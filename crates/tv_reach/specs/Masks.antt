@@ -1,5 +1,5 @@
 -- Masks: which rules of a dialog may hold, whatever happens.
-use Rattle.std.specs.Prelude.{◌≡◌, ◌⊎◌, ℕ, Bool, false, true, List, None, Some, slice_get, All, Any, ◌==◌}
+use Rattle.std.specs.Prelude.{◌≡◌, ◌<◌, ◌⊎◌, ℕ, Bool, false, true, List, None, Some, length, slice_get, All, Any, ◌==◌}
 use Rattle.std.specs.Int.{IsBitSet}
 use Rattle.tv_event.specs.declared.event.Event.{Event}
 use Rattle.tv_model.specs.declared.desc.Dialog.{Dialog}
@@ -41,6 +41,10 @@ MayShow d leaf mask = HasRules d (λ rule. shows d.views leaf rule.effect) mask
 -- by the mask the command may be enabled: it has each rule that enables it
 abbrev pub MayEnable : Dialog → ℕ → Mask → Type 0
 MayEnable d number mask = HasRules d (λ rule. enables number rule.effect) mask
+
+-- each mask has rules of the dialog, and nothing else
+abbrev pub AreMasksOf : List Rule → List Mask → Type 0
+AreMasksOf rules masks = All (λ mask. (place : ℕ) → HasRule mask place → place < length rules) masks
 
 -- ---- closed lists
 

@@ -1,5 +1,5 @@
 -- Which rules show each leaf of a dialog and ask for its marks, as masks.
-use Rattle.std.specs.Prelude.{◌≡◌, ◌↔◌, ◌⊎◌, ℕ, Bool, false, true, ◌&&◌, List, ◌∷◌, map, slice_get, Some, All, Any}
+use Rattle.std.specs.Prelude.{◌≡◌, ◌↔◌, ◌⊎◌, ℕ, Bool, false, true, ◌&&◌, List, ◌∷◌, map, nat_lt, slice_get, Some, All, Any}
 use Rattle.std.specs.List.{AllZip, list_any}
 use Rattle.tv_model.specs.declared.desc.Rule.{Rule}
 use Rattle.tv_model.specs.declared.node.Id.{Id}
@@ -63,11 +63,18 @@ is_own_in views node rule = is_view node.id (meant views rule.cluster)
 
 -- as the view is declared it has the item marked that the rule asks for
 abbrev pub starts_in : List Node → Node → Rule → Bool
-starts_in views node rule = is_own_in views node rule && is_marked (declared_value node.kind) (natural rule.item)
+starts_in views node rule =
+    is_own_in views node rule
+    && (nat_lt 0 (natural rule.item) && is_marked (declared_value node.kind) (natural rule.item))
 
 -- the mask has the rules that hold as the view is declared
 abbrev pub HasStarting : List Node → List Rule → Mask → Node → Type 0
 HasStarting views rules mask node = (place : ℕ) → Passes (starts_in views node) rules place → HasRule mask place
+
+-- the mask has each rule that holds as one of the leaves is declared
+abbrev pub HasStart : List Node → List Rule → List ShownLeaf → Mask → Type 0
+HasStart views rules leaves mask =
+    (place : ℕ) → Any (λ leaf. Passes (starts_in views leaf.node.now) rules place) leaves → HasRule mask place
 
 -- where the item of the view is chosen by the one mask, what may hold then is in the other
 abbrev pub LeadsIn : List Node → List Rule → Node → ℕ → Mask → Mask → Type 0

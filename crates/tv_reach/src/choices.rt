@@ -95,7 +95,8 @@ fn starts_marked(kind: &Kind, item: u32) -> bool
 fn starts(names: &Names, node: &Node, rule: &Rule) -> bool
     ensures { result ≡ starts_in names.now node.now rule.now }
 {
-    is_own(names, node, rule) && starts_marked(&node.kind, natural(&rule.item))
+    let item = natural(&rule.item);
+    is_own(names, node, rule) && 0 < item && starts_marked(&node.kind, item)
 }
 
 /// Returns the rules that ask for items of the view that are declared to be marked.
