@@ -1,5 +1,5 @@
 -- What the code finds of leaves and masks, said of the dialog.
-use Rattle.std.proofs.Common.{◌≡◌, ◌↔◌, ◌⊎◌, inl, inr, ℕ, zero, suc, ◌<◌, Bool, true, false, ◌||◌, List, [], ◌∷◌, get_or, length, Option, Some, None, refl, sym, ap, subst, ◌∙◌, All, Any, arith}
+use Rattle.std.proofs.Common.{◌≡◌, ◌↔◌, ◌⊎◌, inl, inr, ℕ, zero, suc, ◌<◌, Bool, true, false, ◌||◌, List, [], ◌∷◌, get_or, length, Option, Some, None, refl, sym, ap, subst, ◌∙◌, All, Any, IsTrue, arith}
 use Rattle.std.specs.List.{AllZip, list_any}
 use Rattle.std.proofs.lemmas.Bool.{true≢false}
 use Rattle.std.proofs.lemmas.List.Elements.{All-cons, All-nil}
@@ -38,6 +38,13 @@ module _ (case : Case) (leaf : PlacedNode) (shown : ShownLeaf) (is : IsLeafOf ca
   pub shown_part : (mask : Mask) → MayShow case.dialog.now leaf mask → IsPart shown.shown_by mask
   shown_part mask may place has = let passes = (is.by place).0 has in may place passes.0 passes.1 passes.2
 
+  -- and one that has its rules may show it
+  pub part_shown : (mask : Mask) → IsPart shown.shown_by mask → MayShow case.dialog.now leaf mask
+  part_shown mask part place rule there on = part place ((is.by place).1 (rule, there, on))
+
+  pub none_shown : IsNeverShown case.dialog.now case.masks.now leaf → IsInNone case.masks.now shown.shown_by
+  none_shown never = λ k mask h part. never k mask h (part_shown (get_or case.masks.now k mask) part)
+
   pub never_shown : IsInNone case.masks.now shown.shown_by → IsNeverShown case.dialog.now case.masks.now leaf
   never_shown none = λ k mask h may. none k mask h (shown_part (get_or case.masks.now k mask) may)
 
@@ -61,17 +68,61 @@ module _ (case : Case) (leaf : PlacedNode) (shown : ShownLeaf) (is : IsLeafOf ca
               enabled_part mask (command_of leaf.node.kind) may.1 place
               (subst (λ node. HasRuleFor case.dialog.now.rules (command_of node.kind) place) is.node (enables place on))
 
+  part_enabled : (mask : Mask) (o : Option CommandSpec) → ((place : ℕ) → HasRuleFor case.dialog.now.rules o place → HasRule mask place)
+      → MayEnableBy case.dialog.now o mask
+  part_enabled mask None has = tt
+  part_enabled mask (Some command) has = λ place rule there on. has place (rule, there, on)
+
+  -- what is never free has no mask with all of these
+  pub none_free : (enabled freed : Mask) → ((k : ℕ) → HasRule freed k ↔ (HasRule shown.shown_by k ⊎ HasRule enabled k))
+      → ((k : ℕ) → HasRule enabled k ↔ HasRuleFor case.dialog.now.rules (command_of shown.node.now.kind) k)
+      → is_control shown.node.now.kind ≡ true → IsNeverFree case.dialog.now case.masks.now leaf → IsInNone case.masks.now freed
+  none_free enabled freed union enables on (inl off) =
+      absurd (true≢false (sym on ∙ ap (λ node. is_control node.kind) is.node ∙ off))
+  none_free enabled freed union enables on (inr never) = λ k mask h part. never k mask h (may (get_or case.masks.now k mask) part)
+    where
+      may : (mask : Mask) → IsPart freed mask → MayBeFree case.dialog.now leaf mask
+      may mask part = (
+        part_shown mask (λ place has. part place ((union place).1 (inl has))),
+        subst (λ node. MayEnableBy case.dialog.now (command_of node.kind) mask) is.node
+            (part_enabled mask (command_of shown.node.now.kind) (λ place has. part place ((union place).1 (inr ((enables place).1 has))))),
+      )
+
   pub no_control : is_control shown.node.now.kind ≡ false → IsNeverFree case.dialog.now case.masks.now leaf
   no_control e = inl (subst (λ node. is_control node.kind ≡ false) is.node e)
 
-  pub blocks : IsInNone case.masks.now shown.shown_by → starts_invalid shown.node.now.kind ≡ true → Blocks case.dialog.now case.masks.now shown.node.now.id leaf
-  blocks none invalid = record {
-    id = sym (ap (λ node. node.id) is.node);
-    invalid = subst (λ node. starts_invalid node.kind ≡ true) is.node invalid;
-    hidden = never_shown none;
-  }
+  -- where no mask shows it, it blocks if it starts invalid
+  pub blocks_so : IsInNone case.masks.now shown.shown_by → (invalid : Bool) → invalid ≡ starts_invalid shown.node.now.kind
+      → IsTrue invalid ↔ Blocks case.dialog.now case.masks.now leaf.node.id leaf
+  blocks_so none invalid same = (
+    (λ e. record {
+      id = refl;
+      invalid = subst (λ node. starts_invalid node.kind ≡ true) is.node (sym same ∙ e);
+      hidden = never_shown none;
+    }),
+    (λ blocks. same ∙ ap (λ node. starts_invalid node.kind) is.node ∙ blocks.invalid),
+  )
+
+  -- and where one shows it, it doesn't
+  pub blocks_not : (IsInNone case.masks.now shown.shown_by → ⊥) → Blocks case.dialog.now case.masks.now leaf.node.id leaf → ⊥
+  blocks_not some blocks = some (none_shown blocks.hidden)
 
 -- ---- all leaves of a case
+
+-- what is so of each leaf, as the code finds it, is so of each of the dialog
+pub all_of : (case : Case) (is : IsCase case) (P : PlacedNode → Type 0) → All (λ shown. (leaf : PlacedNode) → IsLeafOf case leaf shown → P leaf) case.leaves.now
+    → All P (leaf_list case.dialog.now.views)
+all_of case is P all =
+    zip_all (IsLeafOf case) (λ shown. (leaf : PlacedNode) → IsLeafOf case leaf shown → P leaf) P (λ leaf shown of each. each leaf of)
+    (leaf_list case.dialog.now.views) case.leaves.now is.leaves all
+
+-- what is so of each of the dialog is so of the one at which the code is
+pub all_here : {B : Type 0} (case : Case) (is : IsCase case) (P : PlacedNode → Type 0) (k : ℕ) (shown : ShownLeaf) → k < length case.leaves.now
+    → shown ≡ get_or case.leaves.now k shown → All P (leaf_list case.dialog.now.views) → ((leaf : PlacedNode) → IsLeafOf case leaf shown → P leaf → B) → B
+all_here case is P k shown less here all then =
+    at-any P (λ leaf. IsLeafOf case leaf shown) (leaf_list case.dialog.now.views) all
+    (zip_any (IsLeafOf case) (λ leaf. IsLeafOf case leaf shown) (leaf_list case.dialog.now.views) case.leaves.now k shown is.leaves less here (λ leaf of. of))
+    (λ leaf p of. then leaf of p)
 
 -- what is so of each leaf of an id, as the code finds it, is so of each of the dialog
 pub all_of_id : (case : Case) (is : IsCase case) (i : Id) (S : PlacedNode → Type 0)

@@ -16,3 +16,5 @@ mod StartLemmas
 mod ClosedLemmas
 mod FoundLemmas
 mod ExactLemmas
+mod ReasonLemmas
+mod OutsideLemmas

@@ -1,5 +1,5 @@
 -- What the code looks at in place of a dialog: its leaves with the rules that show them, and masks.
-use Rattle.std.specs.Prelude.{◌≡◌, ◌≤◌, ℕ, true, List, length, Option, Some, None, All}
+use Rattle.std.specs.Prelude.{◌≡◌, ◌≤◌, ◌↔◌, ℕ, true, List, length, Option, Some, None, All}
 use Rattle.tv_model.specs.declared.command.CommandSpec.{CommandSpec}
 use Rattle.tv_model.specs.declared.desc.Rule.{Rule}
 use Rattle.tv_model.specs.Description.Commands.{command_number}
@@ -36,4 +36,4 @@ pub record AreGivers (givers : Givers) : Type 0 where
   pub case : IsCase givers.case.now
   pub enabled :
       IsMaskOf (λ rule. enables givers.number rule.effect) givers.case.now.dialog.now.rules givers.enabled_by
-  pub status : HasStatus givers.case.now.desc.now givers.number → givers.has_status ≡ true
+  pub status : (givers.has_status ≡ true) ↔ HasStatus givers.case.now.desc.now givers.number

@@ -123,6 +123,10 @@ IsReason d dialog masks (goals.Shows i) reasons.NotShown =
     All (λ leaf. leaf.node.id ≡ i → IsNeverShown dialog masks leaf) (leaf_list dialog.views)
 IsReason d dialog masks goal why = ⊥
 
+-- by these masks there is no reason against the goal
+abbrev pub LacksReason : Desc → Dialog → List Mask → Goal → Type 0
+LacksReason d dialog masks goal = (why : Reason) → IsReason d dialog masks goal why → ⊥
+
 -- each dialog has a later line than those before it
 abbrev pub DialogsRise : Desc → Type 0
 DialogsRise d = AllPairs (λ dialog later. dialog.node.id.0 < later.node.id.0) d.dialogs

@@ -1,8 +1,9 @@
 //! What no mask of a list shows or leaves free.
 
-ghost use Rattle.std.specs.Prelude.{◌≡◌, ◌≤◌, ℕ, IfOk, IfSome, IsTrue, true, length, All, Any};
+ghost use Rattle.std.specs.Prelude.{◌≡◌, ◌↔◌, ◌≤◌, ℕ, IfNone, IfOk, IfSome, IsTrue, not, length, All, Any};
 ghost use Rattle.tv_model.specs.Description.Commands.{command_number, command_of};
 ghost use Rattle.tv_valid.specs.Asking.{domain_of};
+ghost use Rattle.tv_valid.specs.Deciding.{in_domain};
 ghost use Rattle.tv_model.specs.Kinds.InputLine.{is_outside_domain};
 ghost use Rattle.tv_machine.specs.Dialog.Rules.{enables};
 ghost use Rattle.tv_machine.specs.Leaves.{PlacedNode, leaf_list};
@@ -29,7 +30,7 @@ pub(crate) struct Case<'a> {
 
 // Whether none of the masks has all of these rules.
 fn is_in_none(masks: &[Mask], rules: Mask) -> bool
-    ensures { IsTrue result → IsInNone masks.now rules }
+    ensures { IsTrue result ↔ IsInNone masks.now rules }
 {
     for mask in masks {
         if mask.contains_all(rules) {
@@ -66,7 +67,7 @@ pub(crate) fn enabling_rules(rules: &[Rule], number: u32) -> Mask
 // The rules that enable what the view gives, if it gives a command.
 fn own_enabling_rules(rules: &[Rule], node: &Node) -> Mask
     requires { length rules.now ≤ 64 }
-    ensures { (k : ℕ) → HasRule result k → HasRuleFor rules.now (command_of node.now.kind) k }
+    ensures { (k : ℕ) → HasRule result k ↔ HasRuleFor rules.now (command_of node.now.kind) k }
 {
     match &node.kind {
         Kind::Button(button) => enabling_rules(rules, button.command.number()),
@@ -77,8 +78,8 @@ fn own_enabling_rules(rules: &[Rule], node: &Node) -> Mask
 // Whether the leaf is never shown and enabled, or no control.
 fn is_never_free(case: &Case, leaf: &ShownLeaf) -> bool
     requires { IsCase case.now }
-    ensures { IsTrue result → (placed : PlacedNode) → IsLeafOf case.now placed leaf.now
-        → IsNeverFree case.now.dialog.now case.now.masks.now placed }
+    ensures { (placed : PlacedNode) → IsLeafOf case.now placed leaf.now
+        → IsTrue result ↔ IsNeverFree case.now.dialog.now case.now.masks.now placed }
 {
     if leaf.node.kind.is_control() {
         let enabled_by = own_enabling_rules(case.dialog.rules.as_slice(), leaf.node);
@@ -91,8 +92,8 @@ fn is_never_free(case: &Case, leaf: &ShownLeaf) -> bool
 // Whether the leaf has another id, or is never free.
 fn is_not_free(case: &Case, leaf: &ShownLeaf, id: Id) -> bool
     requires { IsCase case.now }
-    ensures { IsTrue result → leaf.now.node.now.id ≡ id → (placed : PlacedNode) → IsLeafOf case.now placed leaf.now
-        → IsNeverFree case.now.dialog.now case.now.masks.now placed }
+    ensures { (placed : PlacedNode) → IsLeafOf case.now placed leaf.now
+        → IsTrue result ↔ (placed.node.id ≡ id → IsNeverFree case.now.dialog.now case.now.masks.now placed) }
 {
     if leaf.node.id == id {
         is_never_free(case, leaf)
@@ -104,7 +105,7 @@ fn is_not_free(case: &Case, leaf: &ShownLeaf, id: Id) -> bool
 /// Whether what has the id is never free.
 pub(crate) fn are_never_free(case: &Case, id: Id) -> bool
     requires { IsCase case.now }
-    ensures { IsTrue result → All (λ leaf. leaf.node.id ≡ id
+    ensures { IsTrue result ↔ All (λ leaf. leaf.node.id ≡ id
         → IsNeverFree case.now.dialog.now case.now.masks.now leaf) (leaf_list case.now.dialog.now.views) }
 {
     for leaf in case.leaves {
@@ -117,7 +118,8 @@ pub(crate) fn are_never_free(case: &Case, id: Id) -> bool
 
 // Whether the leaf has another id, or is never shown.
 fn is_not_shown(case: &Case, leaf: &ShownLeaf, id: Id) -> bool
-    ensures { IsTrue result → leaf.now.node.now.id ≡ id → IsInNone case.now.masks.now leaf.now.shown_by }
+    ensures { (placed : PlacedNode) → IsLeafOf case.now placed leaf.now
+        → IsTrue result ↔ (placed.node.id ≡ id → IsNeverShown case.now.dialog.now case.now.masks.now placed) }
 {
     if leaf.node.id == id {
         is_in_none(case.masks, leaf.shown_by)
@@ -129,7 +131,7 @@ fn is_not_shown(case: &Case, leaf: &ShownLeaf, id: Id) -> bool
 /// Whether what has the id is never shown.
 pub(crate) fn are_never_shown(case: &Case, id: Id) -> bool
     requires { IsCase case.now }
-    ensures { IsTrue result → All (λ leaf. leaf.node.id ≡ id
+    ensures { IsTrue result ↔ All (λ leaf. leaf.node.id ≡ id
         → IsNeverShown case.now.dialog.now case.now.masks.now leaf) (leaf_list case.now.dialog.now.views) }
 {
     for leaf in case.leaves {
@@ -140,24 +142,31 @@ pub(crate) fn are_never_shown(case: &Case, id: Id) -> bool
     true
 }
 
-/// Whether the text that the input starts with is known to lie outside its domain.
-pub fn starts_outside(alloc: Global, input: &Input) -> Result<bool, AllocError>
-    ensures { IfOk result (λ outside. IsTrue outside
-        → is_outside_domain (domain_of input.now.spec) input.now.start ≡ true) }
+// Whether the text lies outside the domain.
+fn lies_outside(domain: &Domain, chars: &[char]) -> bool
+    ensures { result ≡ not (in_domain domain.now chars.now) }
 {
-    let Some(text) = Text::from_chars(input.start.as_slice()) else {
-        return Ok(false);
-    };
+    match Text::from_chars(chars) {
+        Some(text) => !domain.accepts(&text),
+        None => true,
+    }
+}
+
+/// Whether the text that the input starts with lies outside its domain. An input with a wrong picture has none.
+pub fn starts_outside(alloc: Global, input: &Input) -> Result<bool, AllocError>
+    ensures { IfOk result (λ outside. outside ≡ is_outside_domain (domain_of input.now.spec) input.now.start) }
+{
     match Domain::new(alloc, &input.spec) {
-        Ok(domain) => Ok(!domain.accepts(&text)),
+        Ok(domain) => Ok(lies_outside(&domain, input.start.as_slice())),
         Err(DomainFault::NoMemory) => Err(AllocError),
-        Err(DomainFault::BadPicture(_) | DomainFault::Empty) => Ok(false),
+        Err(DomainFault::BadPicture(_)) => Ok(false),
+        Err(DomainFault::Empty) => Ok(true),
     }
 }
 
 // Whether the view is an input that starts so.
 fn starts_invalid(alloc: Global, node: &Node) -> Result<bool, AllocError>
-    ensures { IfOk result (λ outside. IsTrue outside → starts_invalid node.now.kind ≡ true) }
+    ensures { IfOk result (λ outside. outside ≡ starts_invalid node.now.kind) }
 {
     match &node.kind {
         Kind::Input(input) => starts_outside(alloc, input),
@@ -167,8 +176,8 @@ fn starts_invalid(alloc: Global, node: &Node) -> Result<bool, AllocError>
 
 // Whether the leaf is an input that starts so, and is never shown.
 fn is_blocking(alloc: Global, case: &Case, leaf: &ShownLeaf) -> Result<bool, AllocError>
-    ensures { IfOk result (λ is. IsTrue is → IsInNone case.now.masks.now leaf.now.shown_by
-        × (starts_invalid leaf.now.node.now.kind ≡ true)) }
+    ensures { IfOk result (λ is. (placed : PlacedNode) → IsLeafOf case.now placed leaf.now
+        → IsTrue is ↔ Blocks case.now.dialog.now case.now.masks.now placed.node.id placed) }
 {
     if is_in_none(case.masks, leaf.shown_by) {
         starts_invalid(alloc, leaf.node)
@@ -180,8 +189,10 @@ fn is_blocking(alloc: Global, case: &Case, leaf: &ShownLeaf) -> Result<bool, All
 /// Returns the id of an input that starts with a text outside its domain, and is never shown.
 pub(crate) fn blocking(alloc: Global, case: &Case) -> Result<Option<Id>, AllocError>
     requires { IsCase case.now }
-    ensures { IfOk result (λ found. IfSome found (λ i.
+    ensures found { IfOk result (λ found. IfSome found (λ i.
         Any (Blocks case.now.dialog.now case.now.masks.now i) (leaf_list case.now.dialog.now.views))) }
+    ensures exact { IfOk result (λ found. IfNone found (All (λ leaf.
+        Blocks case.now.dialog.now case.now.masks.now leaf.node.id leaf → ⊥) (leaf_list case.now.dialog.now.views))) }
 {
     for leaf in case.leaves {
         let blocks = is_blocking(alloc, case, leaf)?;

@@ -5,6 +5,7 @@ ghost use Rattle.tv_model.specs.Description.Commands.{command_number, command_of
 ghost use Rattle.tv_machine.specs.Leaves.{PlacedNode, leaf_list};
 ghost use Rattle.tv_reach.specs.Found.{AreGivers, IsCase, IsLeafOf};
 ghost use Rattle.tv_reach.specs.Never.{HasNoGiver, IsFieldIn, IsNeverGiven, MayGive, MayPress, MayShowField};
+ghost use Rattle.tv_reach.specs.Masks.{MayEnable};
 
 use crate::case::{Case, enabling_rules};
 use crate::mask::Mask;
@@ -36,7 +37,7 @@ fn gives(node: &Node, number: u32) -> bool
 
 // Whether a status item gives the command.
 fn has_status(items: &[StatusItem], number: u32) -> bool
-    ensures { Any (λ item. command_number item.command ≡ number) items.now → IsTrue result }
+    ensures { IsTrue result ↔ Any (λ item. command_number item.command ≡ number) items.now }
 {
     items.iter().any(|item| item.command.number() == number)
 }
@@ -44,7 +45,7 @@ fn has_status(items: &[StatusItem], number: u32) -> bool
 // Whether by the mask the leaf may be shown, and is a control but no button.
 fn is_field_shown(leaf: &ShownLeaf, mask: Mask) -> bool
     ensures { (case : Case) (placed : PlacedNode) → IsLeafOf case placed leaf.now
-        → IsFieldIn case.dialog.now mask placed → IsTrue result }
+        → IsTrue result ↔ IsFieldIn case.dialog.now mask placed }
 {
     leaf.node.kind.is_control() && !leaf.node.kind.is_button() && mask.contains_all(leaf.shown_by)
 }
@@ -52,7 +53,7 @@ fn is_field_shown(leaf: &ShownLeaf, mask: Mask) -> bool
 // Whether by the mask a control may be shown that is no button.
 fn shows_field(case: &Case, mask: Mask) -> bool
     requires { IsCase case.now }
-    ensures { MayShowField case.now.dialog.now mask → IsTrue result }
+    ensures { IsTrue result ↔ MayShowField case.now.dialog.now mask }
 {
     for leaf in case.leaves {
         if is_field_shown(leaf, mask) {
@@ -65,7 +66,8 @@ fn shows_field(case: &Case, mask: Mask) -> bool
 // Whether by the mask the leaf may be pressed for the command, where that is enabled: by itself, or as the default.
 fn is_pressed(leaf: &ShownLeaf, number: u32, mask: Mask, shows_field: bool) -> bool
     ensures { (case : Case) (placed : PlacedNode) → IsLeafOf case placed leaf.now
-        → (MayShowField case.dialog.now mask → IsTrue shows_field) → MayPress case.dialog.now number mask placed → IsTrue result }
+        → IsTrue shows_field ↔ MayShowField case.dialog.now mask → MayEnable case.dialog.now number mask
+        → IsTrue result ↔ MayPress case.dialog.now number mask placed }
 {
     gives(leaf.node, number)
         && (mask.contains_all(leaf.shown_by) || (leaf.node.is_default() && shows_field))
@@ -74,7 +76,8 @@ fn is_pressed(leaf: &ShownLeaf, number: u32, mask: Mask, shows_field: bool) -> b
 // Whether by the mask one of the leaves may be pressed for the command, where that is enabled.
 fn any_pressed(case: &Case, number: u32, mask: Mask) -> bool
     requires { IsCase case.now }
-    ensures { Any (MayPress case.now.dialog.now number mask) (leaf_list case.now.dialog.now.views) → IsTrue result }
+    ensures { MayEnable case.now.dialog.now number mask
+        → IsTrue result ↔ Any (MayPress case.now.dialog.now number mask) (leaf_list case.now.dialog.now.views) }
 {
     let shows_field = shows_field(case, mask);
     for leaf in case.leaves {
@@ -104,7 +107,7 @@ pub(crate) fn givers_of<'a>(case: &'a Case<'a>, command: Command) -> Givers<'a>
 // Whether by the mask the command may be given.
 fn may_give(givers: &Givers, mask: Mask) -> bool
     requires { AreGivers givers.now }
-    ensures { MayGive givers.now.case.now.desc.now givers.now.case.now.dialog.now givers.now.number mask → IsTrue result }
+    ensures { IsTrue result ↔ MayGive givers.now.case.now.desc.now givers.now.case.now.dialog.now givers.now.number mask }
 {
     mask.contains_all(givers.enabled_by)
         && (givers.has_status || any_pressed(givers.case, givers.number, mask))
@@ -113,7 +116,7 @@ fn may_give(givers: &Givers, mask: Mask) -> bool
 /// Whether by none of the masks the command may be given.
 pub(crate) fn is_never_given(givers: &Givers) -> bool
     requires { AreGivers givers.now }
-    ensures { IsTrue result → IsNeverGiven givers.now.case.now.desc.now givers.now.case.now.dialog.now
+    ensures { IsTrue result ↔ IsNeverGiven givers.now.case.now.desc.now givers.now.case.now.dialog.now
         givers.now.case.now.masks.now givers.now.number }
 {
     for mask in givers.case.masks {
@@ -127,7 +130,7 @@ pub(crate) fn is_never_given(givers: &Givers) -> bool
 /// Whether there is neither a button of the command nor a status item.
 pub(crate) fn is_without_giver(givers: &Givers) -> bool
     requires { AreGivers givers.now }
-    ensures { IsTrue result → HasNoGiver givers.now.case.now.desc.now givers.now.case.now.dialog.now givers.now.number }
+    ensures { IsTrue result ↔ HasNoGiver givers.now.case.now.desc.now givers.now.case.now.dialog.now givers.now.number }
 {
     if givers.has_status {
         return false;

@@ -1,9 +1,9 @@
 //! Why no events reach a goal, by a closed list of masks.
 
-ghost use Rattle.std.specs.Prelude.{◌≡◌, IfOk, IfSome, IsTrue};
+ghost use Rattle.std.specs.Prelude.{◌≡◌, ◌≤◌, ◌↔◌, length, IfNone, IfOk, IfSome, IsTrue};
 ghost use Rattle.std.specs.List.{list_any};
 ghost use Rattle.tv_reach.specs.Found.{IsCase};
-ghost use Rattle.tv_reach.specs.Never.{IsNeverOpened, IsReason, opens_by, starts_with};
+ghost use Rattle.tv_reach.specs.Never.{IsNeverOpened, IsReason, LacksReason, opens_by, starts_with};
 ghost use Rattle.tv_reach.specs.declared.goal.Goal.TheVariants.{Ends};
 
 use crate::answer::Reason;
@@ -59,7 +59,8 @@ fn any_menu_opens(menus: &[Menu], dialog: &Dialog) -> bool
 
 // Whether neither the start opens the dialog nor a status item nor a menu item.
 fn is_never_opened(desc: &Desc, dialog: &Dialog) -> bool
-    ensures { IsTrue result → IsNeverOpened desc.now dialog.now }
+    ensures never { IsTrue result → IsNeverOpened desc.now dialog.now }
+    ensures exact { IsNeverOpened desc.now dialog.now → IsTrue result }
 {
     !starts_with(desc, dialog)
         && !any_status_opens(desc.status.as_slice(), dialog)
@@ -69,8 +70,10 @@ fn is_never_opened(desc: &Desc, dialog: &Dialog) -> bool
 // Why no events end the dialog by the command.
 fn end_reason(alloc: Global, case: &Case, command: Command) -> Result<Option<Reason>, AllocError>
     requires { IsCase case.now }
-    ensures { IfOk result (λ found. IfSome found (λ why.
+    ensures found { IfOk result (λ found. IfSome found (λ why.
         IsReason case.now.desc.now case.now.dialog.now case.now.masks.now (Ends command) why)) }
+    ensures exact { IfOk result (λ found. IfNone found ((IsNeverOpened case.now.desc.now case.now.dialog.now → ⊥)
+        → LacksReason case.now.desc.now case.now.dialog.now case.now.masks.now (Ends command))) }
 {
     if command == Command::CANCEL {
         return Ok(None);
@@ -91,8 +94,10 @@ fn end_reason(alloc: Global, case: &Case, command: Command) -> Result<Option<Rea
 // Why no events reach the goal in a dialog that something opens.
 fn reason_in(alloc: Global, case: &Case, goal: Goal) -> Result<Option<Reason>, AllocError>
     requires { IsCase case.now }
-    ensures { IfOk result (λ found. IfSome found (λ why.
+    ensures found { IfOk result (λ found. IfSome found (λ why.
         IsReason case.now.desc.now case.now.dialog.now case.now.masks.now goal why)) }
+    ensures exact { IfOk result (λ found. IfNone found ((IsNeverOpened case.now.desc.now case.now.dialog.now → ⊥)
+        → LacksReason case.now.desc.now case.now.dialog.now case.now.masks.now goal)) }
 {
     match goal {
         Goal::Opens => Ok(None),
@@ -103,8 +108,8 @@ fn reason_in(alloc: Global, case: &Case, goal: Goal) -> Result<Option<Reason>, A
     }
 }
 
-/// Looks for a reason why no events reach the goal in the dialog, by these masks, which have to be closed for it to hold. Of a
-/// dialog with more than 64 rules it finds only that nothing opens it.
+/// Finds a reason why no events reach the goal in the dialog, by these masks, which have to be closed for it to hold. Of a dialog with
+/// more than 64 rules it finds only that nothing opens it.
 pub fn reason_against(
     alloc: Global,
     desc: &Desc,
@@ -112,7 +117,9 @@ pub fn reason_against(
     masks: &[Mask],
     goal: Goal,
 ) -> Result<Option<Reason>, AllocError>
-    ensures { IfOk result (λ found. IfSome found (λ why. IsReason desc.now dialog.now masks.now goal why)) }
+    ensures found { IfOk result (λ found. IfSome found (λ why. IsReason desc.now dialog.now masks.now goal why)) }
+    ensures exact { IfOk result (λ found. IfNone found (length dialog.now.rules ≤ 64
+        → LacksReason desc.now dialog.now masks.now goal)) }
 {
     if is_never_opened(desc, dialog) {
         return Ok(Some(Reason::NotOpened));

@@ -8,5 +8,5 @@ use Rattle.tv_reach.proofs.case.are_never_free.Given as goal
 -- those so far that have the id are never free
 abbrev pub invariant-loop-leaf : goal.invariant-loop-leaf
 invariant-loop-leaf l =
-    All (λ shown. shown.node.now.id ≡ l.id → (leaf : PlacedNode) → IsLeafOf l.case leaf shown
+    All (λ shown. (leaf : PlacedNode) → IsLeafOf l.case leaf shown → leaf.node.id ≡ l.id
     → IsNeverFree l.case.dialog.now l.case.masks.now leaf) (take l.leaf-index l.case.leaves.now)

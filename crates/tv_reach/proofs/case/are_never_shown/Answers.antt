@@ -1,27 +1,40 @@
-use Rattle.std.proofs.Common.{◌≡◌, true, rules, arith}
-use Rattle.std.proofs.lemmas.List.Elements.{All-weaker}
+use Rattle.std.proofs.Common.{◌≡◌, ◌∙◌, true, false, refl, rules, arith, sym}
+use Rattle.std.proofs.lemmas.Bool.{true≢false}
 use Rattle.tv_machine.specs.Leaves.{PlacedNode}
 use Rattle.tv_reach.specs.declared.shown.ShownLeaf.{ShownLeaf}
-use Rattle.tv_reach.specs.Found.{IsInNone, IsLeafOf}
+use Rattle.tv_reach.specs.Found.{IsLeafOf}
 use Rattle.tv_reach.specs.Runs.{IsNeverShown}
 use Rattle.tv_reach.proofs.ClosedLemmas.{goes_on, gone}
-use Rattle.tv_reach.proofs.FoundLemmas.{all_of_id, never_shown}
+use Rattle.tv_reach.proofs.FoundLemmas.{all_here, all_of}
 use Rattle.tv_reach.proofs.case.are_never_shown.Goals as goal
 
 pub loop-leaf-preserved : goal.loop-leaf-preserved
 loop-leaf-preserved c =
     let case = c.args.case.now in
     let yes : c.is_not_shown.result ≡ true = search rules in
-    goes_on (λ (shown : ShownLeaf). shown.node.now.id ≡ c.args.id → IsInNone case.masks.now shown.shown_by) case.leaves.now
-    c.loop-leaf.leaf-index c.leaf-item.result c.loop-leaf-test.true c.leaf-item.is c.loop-leaf.invariant (c.is_not_shown.ensures yes)
+    goes_on (λ (shown : ShownLeaf). (leaf : PlacedNode) → IsLeafOf case leaf shown → leaf.node.id ≡ c.args.id
+    → IsNeverShown case.dialog.now case.masks.now leaf) case.leaves.now
+    c.loop-leaf.leaf-index c.leaf-item.result c.loop-leaf-test.true c.leaf-item.is c.loop-leaf.invariant (λ leaf is. (c.is_not_shown.ensures leaf is).0 yes)
+
+pub returns-then-not-is_not_shown : goal.returns-then-not-is_not_shown
+returns-then-not-is_not_shown c =
+    let case = c.args.case.now in
+    let no : c.is_not_shown.result ≡ false = search rules in (
+      (λ e. absurd (true≢false (sym e))),
+      (λ all.
+          absurd
+          (all_here case c.requires (λ leaf. leaf.node.id ≡ c.args.id → IsNeverShown case.dialog.now case.masks.now leaf) c.loop-leaf.leaf-index
+          c.leaf-item.result c.loop-leaf-test.true c.leaf-item.is all
+          (λ leaf is never. let yes : c.is_not_shown.result ≡ true = (c.is_not_shown.ensures leaf is).1 never in true≢false (sym yes ∙ no)))),
+    )
 
 pub returns : goal.returns
-returns c = λ e.
-    let case = c.args.case.now in
-    all_of_id case c.requires c.args.id (IsNeverShown case.dialog.now case.masks.now)
-    (All-weaker (λ (shown : ShownLeaf). shown.node.now.id ≡ c.args.id → IsInNone case.masks.now shown.shown_by)
-    (λ (shown : ShownLeaf). shown.node.now.id ≡ c.args.id → (leaf : PlacedNode) → IsLeafOf case leaf shown
-    → IsNeverShown case.dialog.now case.masks.now leaf)
-    (λ shown none here leaf is. never_shown case leaf shown is (none here)) case.leaves.now
-    (gone (λ (shown : ShownLeaf). shown.node.now.id ≡ c.args.id → IsInNone case.masks.now shown.shown_by) case.leaves.now
-    c.loop-leaf.leaf-index (omega (arith, c.loop-leaf-test.false)) c.loop-leaf.invariant))
+returns c =
+    let case = c.args.case.now in (
+      (λ e.
+          all_of case c.requires (λ leaf. leaf.node.id ≡ c.args.id → IsNeverShown case.dialog.now case.masks.now leaf)
+          (gone (λ (shown : ShownLeaf). (leaf : PlacedNode) → IsLeafOf case leaf shown → leaf.node.id ≡ c.args.id
+          → IsNeverShown case.dialog.now case.masks.now leaf) case.leaves.now c.loop-leaf.leaf-index
+          (omega (arith, c.loop-leaf-test.false)) c.loop-leaf.invariant)),
+      (λ all. refl),
+    )

@@ -1,4 +1,4 @@
-use Rattle.std.proofs.Common.{◌≡◌, ◌∙◌, true, false, get_or, rules, arith, sym}
+use Rattle.std.proofs.Common.{◌≡◌, ◌∙◌, true, false, get_or, refl, rules, arith, sym}
 use Rattle.std.proofs.lemmas.Bool.{true≢false}
 use Rattle.std.proofs.lemmas.List.{get_or_default}
 use Rattle.tv_reach.specs.declared.mask.Mask.{Mask}
@@ -16,6 +16,15 @@ loop-mask-preserved c =
     (get_or_default masks c.loop-mask.mask-index none mask c.loop-mask-test.true) c.loop-mask.invariant
     (λ part. let yes : c.contains_all.result ≡ true = c.contains_all.ensures.1 part in true≢false (sym yes ∙ no))
 
+pub returns-then-contains_all : goal.returns-then-contains_all
+returns-then-contains_all c =
+    let none : Mask = record { bits = 0 } in (
+      (λ e. absurd (true≢false (sym e))),
+      (λ all. absurd (all c.loop-mask.mask-index none c.loop-mask-test.true (c.contains_all.ensures.0 c.if-contains_all.true))),
+    )
+
 pub returns : goal.returns
-returns c = λ e.
-    gone (λ mask. IsPart c.args.rules mask → ⊥) c.args.masks.now c.loop-mask.mask-index (omega (arith, c.loop-mask-test.false)) c.loop-mask.invariant
+returns c = (
+  (λ e. gone (λ mask. IsPart c.args.rules mask → ⊥) c.args.masks.now c.loop-mask.mask-index (omega (arith, c.loop-mask-test.false)) c.loop-mask.invariant),
+  (λ all. refl),
+)

@@ -1,11 +1,12 @@
-use Rattle.std.proofs.Common.{◌≡◌, ◌∙◌, true, false, rules, arith, sym}
+use Rattle.std.proofs.Common.{◌≡◌, ◌∙◌, true, false, refl, rules, arith, sym}
 use Rattle.std.proofs.lemmas.Bool.{true≢false}
 use Rattle.tv_machine.specs.Leaves.{PlacedNode}
 use Rattle.tv_reach.specs.declared.shown.ShownLeaf.{ShownLeaf}
 use Rattle.tv_reach.specs.Found.{IsLeafOf}
 use Rattle.tv_reach.specs.Never.{MayPress}
 use Rattle.tv_reach.proofs.ClosedLemmas.{goes_on, gone}
-use Rattle.tv_reach.proofs.FoundLemmas.{not_any}
+use Rattle.tv_machine.specs.Leaves.{leaf_list}
+use Rattle.tv_reach.proofs.FoundLemmas.{not_any, zip_any}
 use Rattle.tv_reach.proofs.giving.any_pressed.Goals as goal
 
 pub loop-leaf-preserved : goal.loop-leaf-preserved
@@ -15,11 +16,24 @@ loop-leaf-preserved c =
     goes_on (λ (shown : ShownLeaf). (leaf : PlacedNode) → IsLeafOf case leaf shown → MayPress case.dialog.now c.args.number c.args.mask leaf → ⊥)
     case.leaves.now c.loop-leaf.leaf-index c.leaf-item.result c.loop-leaf-test.true c.leaf-item.is c.loop-leaf.invariant
     (λ leaf is may.
-    let yes : c.is_pressed.result ≡ true = c.is_pressed.ensures case leaf is c.shows_field-shows_field.ensures may in true≢false (sym yes ∙ no))
+    let yes : c.is_pressed.result ≡ true = (c.is_pressed.ensures case leaf is c.shows_field-shows_field.ensures may.enabled).1 may in true≢false (sym yes ∙ no))
+
+pub returns-then-is_pressed : goal.returns-then-is_pressed
+returns-then-is_pressed c = λ on.
+    let case = c.args.case.now in (
+      (λ e.
+          zip_any (IsLeafOf case) (MayPress case.dialog.now c.args.number c.args.mask) (leaf_list case.dialog.now.views) case.leaves.now
+          c.loop-leaf.leaf-index c.leaf-item.result c.requires.leaves c.loop-leaf-test.true c.leaf-item.is
+          (λ leaf is. (c.is_pressed.ensures case leaf is c.shows_field-shows_field.ensures on).0 c.if-is_pressed.true)),
+      (λ may. refl),
+    )
 
 pub returns : goal.returns
-returns c = λ may.
-    let case = c.args.case.now in
-    absurd (not_any case c.requires (MayPress case.dialog.now c.args.number c.args.mask)
-    (gone (λ (shown : ShownLeaf). (leaf : PlacedNode) → IsLeafOf case leaf shown → MayPress case.dialog.now c.args.number c.args.mask leaf → ⊥)
-    case.leaves.now c.loop-leaf.leaf-index (omega (arith, c.loop-leaf-test.false)) c.loop-leaf.invariant) may)
+returns c = λ on.
+    let case = c.args.case.now in (
+      (λ e. absurd (true≢false (sym e))),
+      (λ may.
+          absurd (not_any case c.requires (MayPress case.dialog.now c.args.number c.args.mask)
+          (gone (λ (shown : ShownLeaf). (leaf : PlacedNode) → IsLeafOf case leaf shown → MayPress case.dialog.now c.args.number c.args.mask leaf → ⊥)
+          case.leaves.now c.loop-leaf.leaf-index (omega (arith, c.loop-leaf-test.false)) c.loop-leaf.invariant) may)),
+    )

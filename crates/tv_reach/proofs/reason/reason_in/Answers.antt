@@ -4,12 +4,12 @@ use Rattle.tv_reach.specs.declared.goal.Goal.{Goal}
 use Rattle.tv_reach.specs.Never.{IsReason}
 use Rattle.tv_reach.proofs.reason.reason_in.Goals as goal
 
-pub returns-in-Shows : goal.returns-in-Shows
-returns-in-Shows c =
+pub returns-in-Shows-clause-found : goal.returns-in-Shows-clause-found
+returns-in-Shows-clause-found c =
     subst (λ (goal : Goal). IsReason c.args.case.now.desc.now c.args.case.now.dialog.now c.args.case.now.masks.now goal reasons.NotShown)
-    (sym c.in-Shows.is) (c.are_never_shown.ensures c.if-are_never_shown.true)
+    (sym c.in-Shows.is) (c.are_never_shown.ensures.0 c.if-are_never_shown.true)
 
-pub returns-in-Focuses : goal.returns-in-Focuses
-returns-in-Focuses c =
+pub returns-in-Focuses-clause-found : goal.returns-in-Focuses-clause-found
+returns-in-Focuses-clause-found c =
     subst (λ (goal : Goal). IsReason c.args.case.now.desc.now c.args.case.now.dialog.now c.args.case.now.masks.now goal reasons.NotFree)
-    (sym c.in-Focuses.is) (c.are_never_free.ensures c.if-are_never_free.true)
+    (sym c.in-Focuses.is) (c.are_never_free.ensures.0 c.if-are_never_free.true)
