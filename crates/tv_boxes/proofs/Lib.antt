@@ -1,7 +1,9 @@
 pub mod ArgumentExamples
 pub mod ArgumentLemmas
 pub mod AskedLemmas
+pub mod MisuseLemmas
 pub mod OptionLemmas
 pub mod SizeLemmas
 pub mod SoundLemmas
 pub mod SpaceLemmas
+pub mod UnfitLemmas

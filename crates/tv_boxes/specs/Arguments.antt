@@ -1,13 +1,13 @@
 -- The request that the arguments of `dialog` spell.
-use Rattle.std.specs.Prelude.{◌≡◌, ℕ, ◌&&◌, ◌||◌, ℤ, pos, negsuc, List, [], ◌∷◌, Bool, true, false, bytes_eq, codes, map}
-use Rattle.std.specs.Prelude.{nat_lt, ◌==◌, Option, Some, None, option_and_then, option_map, if◌then◌else◌}
-use Rattle.std.specs.Prelude.{MatchResult, Result}
+use Rattle.std.specs.Prelude.{◌≡◌, ℕ, ◌+◌, ◌&&◌, ◌||◌, ℤ, pos, negsuc, List, [], ◌∷◌, Bool, true, false, bytes_eq, codes}
+use Rattle.std.specs.Prelude.{length, map, nat_lt, ◌==◌, Option, Some, None, ok_or, option_and_then, option_map}
+use Rattle.std.specs.Prelude.{if◌then◌else◌, MatchResult, Result, Ok, Err}
 use Rattle.std.specs.Str.{chars}
 use Rattle.tv_words.specs.Reading.Numbers.{number_of}
 use Rattle.tv_boxes.specs.declared.asking.BoxName.{BoxName}
 use Rattle.tv_boxes.specs.declared.asking.BoxName.TheVariants as names
 use Rattle.tv_boxes.specs.declared.misuse.Misuse.{Misuse}
-use Rattle.tv_boxes.specs.declared.misuse.Misuse.TheVariants.{NoMemory}
+use Rattle.tv_boxes.specs.declared.misuse.Misuse.TheVariants.{NoMemory, NoBox, Missing, NoNumber, Extra, NoOption}
 use Rattle.tv_boxes.specs.declared.request.BoxKind.{BoxKind}
 use Rattle.tv_boxes.specs.declared.request.BoxKind.TheVariants as boxes
 use Rattle.tv_boxes.specs.declared.request.Choices.{Choices}
@@ -33,6 +33,15 @@ byte_in (negsuc n) = None
 -- the number from 0 to 255 of which this is the text
 abbrev pub number_in : List ℕ → Option ℕ
 number_in word = option_and_then byte_in (number_of word)
+
+-- what is read next, unless there is a misuse already
+abbrev pub and_then : {A B : Type 0} → Result A Misuse → (A → Result B Misuse) → Result B Misuse
+and_then (Ok x) next = next x
+and_then (Err misuse) next = Err misuse
+
+-- the number of a word with so many words behind it
+abbrev pub number_at : List ℕ → (behind : ℕ) → Result ℕ Misuse
+number_at word behind = ok_or (number_in word) (NoNumber behind)
 
 -- the text, with a line feed for each `\n` that is written out
 abbrev pub with_breaks : List ℕ → List ℕ
@@ -92,15 +101,22 @@ marked_items (tag ∷ text ∷ status ∷ words) =
     option_map (λ items. record { tag = tag; text = text; is_on = is_on status } ∷ items) (marked_items words)
 marked_items _ = None
 
--- the rows of a list, and its items
-abbrev pub choices_from : Option ℕ → Option (List Item) → Option Choices
-choices_from (Some rows) (Some items) = Some (record { rows = rows; items = items })
-choices_from _ _ = None
+-- the rows of a list, and its items, of which the last lacks a word if there are none
+abbrev pub choices_in : Result ℕ Misuse → Option (List Item) → Result Choices Misuse
+choices_in rows items =
+    and_then rows (λ rows. and_then (ok_or items Missing) (λ items. Ok (record { rows = rows; items = items })))
 
--- a field of a form, if these are numbers
-abbrev pub field_from : (label start : List ℕ) → (label_row label_column row column width longest : Option ℕ) → Option FormField
-field_from label start (Some label_row) (Some label_column) (Some row) (Some column) (Some width) (Some longest) =
-    Some (record {
+-- the field of the first eight words: its label, the row and column of that, its text, and its row, its column, its
+-- width and the most characters that it takes
+abbrev pub field_in : List (List ℕ) → Result FormField Misuse
+field_in (label ∷ label_row ∷ label_column ∷ start ∷ row ∷ column ∷ width ∷ longest ∷ words) =
+    and_then (number_at label_row (length words + 6)) (λ label_row.
+    and_then (number_at label_column (length words + 5)) (λ label_column.
+    and_then (number_at row (length words + 3)) (λ row.
+    and_then (number_at column (length words + 2)) (λ column.
+    and_then (number_at width (length words + 1)) (λ width.
+    and_then (number_at longest (length words)) (λ longest.
+    Ok (record {
       label = label;
       label_row = label_row;
       label_column = label_column;
@@ -109,30 +125,21 @@ field_from label start (Some label_row) (Some label_column) (Some row) (Some col
       column = column;
       width = width;
       longest = longest;
-    })
-field_from label start _ _ _ _ _ _ = None
+    })))))))
+field_in _ = Err Missing
 
--- the field of the first eight words: its label, the row and column of that, its text, and its row, its column, its
--- width and the most characters that it takes
-abbrev pub field_in : List (List ℕ) → Option FormField
-field_in (label ∷ label_row ∷ label_column ∷ start ∷ row ∷ column ∷ width ∷ longest ∷ words) =
-    field_from label start (number_in label_row) (number_in label_column) (number_in row) (number_in column)
-    (number_in width) (number_in longest)
-field_in _ = None
-
--- one field and more
-abbrev pub with_field : Option FormField → Option (List FormField) → Option (List FormField)
-with_field (Some field) (Some fields) = Some (field ∷ fields)
-with_field _ _ = None
+-- a field, and those behind it
+abbrev pub with_field : Result FormField Misuse → Result (List FormField) Misuse → Result (List FormField) Misuse
+with_field field fields = and_then field (λ field. and_then fields (λ fields. Ok (field ∷ fields)))
 
 -- eight words for each field
-abbrev pub fields_in : List (List ℕ) → Option (List FormField)
-fields_in [] = Some []
+abbrev pub fields_in : List (List ℕ) → Result (List FormField) Misuse
+fields_in [] = Ok []
 fields_in (label ∷ label_row ∷ label_column ∷ start ∷ row ∷ column ∷ width ∷ longest ∷ words) =
     with_field
     (field_in (label ∷ label_row ∷ label_column ∷ start ∷ row ∷ column ∷ width ∷ longest ∷ words))
     (fields_in words)
-fields_in _ = None
+fields_in _ = Err Missing
 
 -- ---- boxes
 
@@ -148,29 +155,28 @@ box_named option =
     else if bytes_eq option (codes "--form") then Some names.Form
     else None
 
--- a form of so many rows, which it has anyhow
-abbrev pub form_from : Option ℕ → Option (List FormField) → Option BoxKind
-form_from (Some rows) (Some fields) = Some (boxes.Form fields)
-form_from _ _ = None
-
--- what a box asks, by the words behind its width
-abbrev pub kind_in : BoxName → Option (List ℕ) → List (List ℕ) → Option BoxKind
-kind_in names.YesNo chosen [] = Some boxes.YesNo
-kind_in names.Message chosen [] = Some boxes.Message
-kind_in names.Input chosen [] = Some (boxes.Input [])
-kind_in names.Input chosen (start ∷ []) = Some (boxes.Input start)
+-- what a box asks, by the words behind its width. The rows of a form are passed over
+abbrev pub kind_in : BoxName → Option (List ℕ) → List (List ℕ) → Result BoxKind Misuse
+kind_in names.YesNo chosen [] = Ok boxes.YesNo
+kind_in names.YesNo chosen (extra ∷ words) = Err (Extra (length words))
+kind_in names.Message chosen [] = Ok boxes.Message
+kind_in names.Message chosen (extra ∷ words) = Err (Extra (length words))
+kind_in names.Input chosen [] = Ok (boxes.Input [])
+kind_in names.Input chosen (start ∷ []) = Ok (boxes.Input start)
+kind_in names.Input chosen (start ∷ extra ∷ words) = Err (Extra (length words))
 kind_in names.Menu chosen (rows ∷ words) =
-    option_map boxes.Menu (choices_from (number_in rows) (menu_items chosen words))
+    and_then (choices_in (number_at rows (length words)) (menu_items chosen words)) (λ choices. Ok (boxes.Menu choices))
 kind_in names.CheckList chosen (rows ∷ words) =
-    option_map boxes.CheckList (choices_from (number_in rows) (marked_items words))
+    and_then (choices_in (number_at rows (length words)) (marked_items words)) (λ choices. Ok (boxes.CheckList choices))
 kind_in names.RadioList chosen (rows ∷ words) =
-    option_map boxes.RadioList (choices_from (number_in rows) (marked_items words))
-kind_in names.Form chosen (rows ∷ words) = form_from (number_in rows) (fields_in words)
-kind_in _ chosen _ = None
+    and_then (choices_in (number_at rows (length words)) (marked_items words)) (λ choices. Ok (boxes.RadioList choices))
+kind_in names.Form chosen (rows ∷ words) =
+    and_then (number_at rows (length words)) (λ _. and_then (fields_in words) (λ fields. Ok (boxes.Form fields)))
+kind_in _ chosen [] = Err Missing
 
 -- a box of these parts
-abbrev pub request_from : Settings → List ℕ → (height width : Option ℕ) → Option BoxKind → Option Request
-request_from s text (Some height) (Some width) (Some kind) = Some (record {
+abbrev pub request_of : Settings → (text : List ℕ) → (height width : ℕ) → BoxKind → Request
+request_of s text height width kind = record {
   title = s.title;
   text = with_breaks text;
   height = height;
@@ -178,39 +184,42 @@ request_from s text (Some height) (Some width) (Some kind) = Some (record {
   labels = s.labels;
   default_no = s.default_no;
   kind = kind;
-})
-request_from s text _ _ _ = None
+}
 
 -- the words behind the option of a box
-abbrev pub box_in : Settings → Option BoxName → List (List ℕ) → Option Request
+abbrev pub box_in : Settings → Option BoxName → List (List ℕ) → Result Request Misuse
+box_in s None words = Err (NoOption (length words))
 box_in s (Some name) (text ∷ height ∷ width ∷ words) =
-    request_from s text (number_in height) (number_in width) (kind_in name s.chosen words)
-box_in s _ _ = None
+    and_then (number_at height (length words + 1)) (λ height.
+    and_then (number_at width (length words)) (λ width.
+    and_then (kind_in name s.chosen words) (λ kind.
+    Ok (request_of s text height width kind))))
+box_in s (Some name) _ = Err Missing
 
 abbrev mutual
   -- options, then that of a box
-  pub read_from : Settings → List (List ℕ) → Option Request
-  read_from s [] = None
+  pub read_from : Settings → List (List ℕ) → Result Request Misuse
+  read_from s [] = Err NoBox
   read_from s (option ∷ words) =
       if bytes_eq option (codes "--defaultno") then read_from (record s { default_no = true }) words
       else behind_option s option (setting_named option) words
 
   -- the words behind an option
-  pub behind_option : Settings → List ℕ → Option Setting → List (List ℕ) → Option Request
+  pub behind_option : Settings → List ℕ → Option Setting → List (List ℕ) → Result Request Misuse
   behind_option s option None words = box_in s (box_named option) words
-  behind_option s option (Some setting) [] = None
+  behind_option s option (Some setting) [] = Err Missing
   behind_option s option (Some setting) (word ∷ words) = read_from (with_setting setting word s) words
 
--- the request that words spell
-abbrev pub request_in : List (List ℕ) → Option Request
+-- the request that words spell, or the first misuse
+abbrev pub request_in : List (List ℕ) → Result Request Misuse
 request_in words = read_from standard_settings words
 
 -- ---- what is answered
 
--- unless memory ran out, nothing is spelled
-abbrev pub Refuses : {T : Type 0} → Option T → Misuse → Type 0
-Refuses found misuse = ¬ (misuse ≡ NoMemory) → found ≡ None
+-- unless memory ran out, this is the misuse
+abbrev pub Refuses : {T : Type 0} → Result T Misuse → Misuse → Type 0
+Refuses found misuse = ¬ (misuse ≡ NoMemory) → found ≡ Err misuse
 
--- what is spelled is answered, or that nothing is
-abbrev pub Reads : {T : Type 0} → Option T → Result T Misuse → Type 0
-Reads found answer = MatchResult answer (λ value. found ≡ Some value) (Refuses found)
+-- what is spelled is answered, or the misuse
+abbrev pub Reads : {T : Type 0} → Result T Misuse → Result T Misuse → Type 0
+Reads found answer = MatchResult answer (λ value. found ≡ Ok value) (Refuses found)

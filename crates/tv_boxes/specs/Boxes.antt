@@ -24,6 +24,7 @@ use Rattle.tv_boxes.specs.Buttons.{button_views, buttons_columns, buttons_of}
 use Rattle.tv_boxes.specs.Items.{tag_columns}
 use Rattle.tv_boxes.specs.Lines.{at_line, on_lines}
 use Rattle.tv_boxes.specs.Sizes.{longest, size}
+use Rattle.tv_boxes.specs.Unfit.{first, unfit_box}
 use Rattle.tv_boxes.specs.Views.{are_few, field_views, list_rows, text_rows, view}
 use Rattle.tv_boxes.specs.Wrapping.{rows_of}
 
@@ -176,11 +177,12 @@ IsOfText (lang.Syntax line) = Unit {0}
 IsOfText lang.TooLong = Unit {0}
 IsOfText lang.Version = Unit {0}
 
--- memory ran out, or the box's text doesn't spell its description, or that isn't sound
+-- memory ran out; or the box's text doesn't spell its description, or that isn't sound, and the first of what can't be
+-- shown is told, if there is any
 abbrev pub RefusesBox : Request → BoxFault → Type 0
 RefusesBox r faults.NoMemory = Unit {0}
-RefusesBox r (faults.Unfit what) = ¬ IsSoundBox r
-RefusesBox r faults.Faults = ¬ IsSoundBox r
+RefusesBox r (faults.Unfit what) = ¬ IsSoundBox r × (first (unfit_box r (boxed_desc r)) ≡ Some what)
+RefusesBox r faults.Faults = ¬ IsSoundBox r × (first (unfit_box r (boxed_desc r)) ≡ None)
 
 -- the description has dialogs alone
 abbrev pub HasDialogsAlone : Desc → Type 0

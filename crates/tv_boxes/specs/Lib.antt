@@ -6,6 +6,8 @@ pub mod Items
 pub mod Views
 pub mod Lines
 pub mod Buttons
+pub mod Unfit
 pub mod Boxes
 pub mod Arguments
+pub mod Misuses
 pub mod Asked

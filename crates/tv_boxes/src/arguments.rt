@@ -51,7 +51,7 @@ fn read_box(
     let [text, height, width, rest @ ..] = words else {
         return Err(Misuse::Missing);
     };
-    let height = number(height, words.len().saturating_sub(2))?;
+    let height = number(height, rest.len() + 1)?;
     let width = number(width, rest.len())?;
     let kind = kind_of(alloc, name, &settings.chosen, rest)?;
     let text = with_breaks(alloc, text.as_slice())?;

@@ -1,7 +1,8 @@
 //! What a box asks, by its option and the arguments behind its width.
 
-ghost use Rattle.std.specs.Prelude.{◌≡◌, [], MatchResult};
-ghost use Rattle.tv_boxes.specs.Arguments.{Reads, box_named, choices_from, field_in, fields_in, is_on, kind_in, marked_items, menu_items, number_in};
+ghost use Rattle.std.specs.Prelude.{◌≡◌, [], MatchResult, length, ok_or};
+ghost use Rattle.tv_boxes.specs.declared.misuse.Misuse.TheVariants.{Missing};
+ghost use Rattle.tv_boxes.specs.Arguments.{Reads, box_named, choices_in, field_in, fields_in, is_on, kind_in, marked_items, menu_items, number_at};
 
 use crate::misuse::Misuse;
 use crate::request::{BoxKind, Choices, FormField, Item};
@@ -49,7 +50,7 @@ impl BoxName {
 
 /// Reads a number of rows or columns. So many arguments are behind it.
 pub(crate) fn number(word: &Chars, behind: usize) -> Result<u8, Misuse>
-    ensures { Reads (number_in word.now) result }
+    ensures { Reads (number_at word.now behind) result }
 {
     match tv_words::number(word.as_slice()) {
         Some(number) if 0 <= number && number <= 255 => Ok(number as u8),
@@ -97,7 +98,7 @@ fn menu(
     rows: &Chars,
     words: &[Chars],
 ) -> Result<Choices, Misuse>
-    ensures { Reads (choices_from (number_in rows.now) (menu_items chosen.now words.now)) result }
+    ensures { Reads (choices_in (number_at rows.now (length words.now)) (menu_items chosen.now words.now)) result }
 {
     let rows = number(rows, words.len())?;
     let items = menu_items(alloc, chosen, words)?;
@@ -105,7 +106,7 @@ fn menu(
 }
 
 fn marked(alloc: Global, rows: &Chars, words: &[Chars]) -> Result<Choices, Misuse>
-    ensures { Reads (choices_from (number_in rows.now) (marked_items words.now)) result }
+    ensures { Reads (choices_in (number_at rows.now (length words.now)) (marked_items words.now)) result }
 {
     let rows = number(rows, words.len())?;
     let items = marked_items(alloc, words)?;
@@ -118,7 +119,7 @@ fn menu_items(
     chosen: &Option<Chars>,
     words: &[Chars],
 ) -> Result<Sequence<Item>, Misuse>
-    ensures { Reads (menu_items chosen.now words.now) result }
+    ensures { Reads (ok_or (menu_items chosen.now words.now) Missing) result }
 {
     let mut items = Sequence::new(alloc);
     let mut left = words;
@@ -135,7 +136,7 @@ fn menu_items(
 
 // The items of tags, texts and statuses.
 fn marked_items(alloc: Global, words: &[Chars]) -> Result<Sequence<Item>, Misuse>
-    ensures { Reads (marked_items words.now) result }
+    ensures { Reads (ok_or (marked_items words.now) Missing) result }
 {
     let mut items = Sequence::new(alloc);
     let mut left = words;
@@ -159,7 +160,7 @@ fn is_on(status: &[char]) -> bool
 
 // What was read, where no word is left.
 fn whole<T: Drop>(items: Sequence<T>, left: &[Chars]) -> Result<Sequence<T>, Misuse>
-    ensures { MatchResult result (λ all. (all ≡ items) × (left.now ≡ [])) (λ misuse. ¬ (left.now ≡ [])) }
+    ensures { MatchResult result (λ all. (all ≡ items) × (left.now ≡ [])) (λ misuse. (misuse ≡ Missing) × ¬ (left.now ≡ [])) }
 {
     if left.is_empty() {
         Ok(items)
@@ -193,19 +194,19 @@ fn form_field(alloc: Global, words: &[Chars]) -> Result<FormField, Misuse>
         column,
         width,
         longest,
-        ..
+        rest @ ..,
     ] = words
     else {
         return Err(Misuse::Missing);
     };
-    let behind = words.len();
+    let behind = rest.len();
     Ok(FormField {
-        label_row: number(label_row, behind.saturating_sub(2))?,
-        label_column: number(label_column, behind.saturating_sub(3))?,
-        row: number(row, behind.saturating_sub(5))?,
-        column: number(column, behind.saturating_sub(6))?,
-        width: number(width, behind.saturating_sub(7))?,
-        longest: number(longest, behind.saturating_sub(8))?,
+        label_row: number(label_row, behind + 6)?,
+        label_column: number(label_column, behind + 5)?,
+        row: number(row, behind + 3)?,
+        column: number(column, behind + 2)?,
+        width: number(width, behind + 1)?,
+        longest: number(longest, behind)?,
         label: label.copy(alloc)?,
         start: start.copy(alloc)?,
     })

@@ -68,7 +68,8 @@ pub fn boxed(alloc: Global, request: &Request) -> Result<String, BoxFault>
 
 // Why the box can't be shown, in words where there are any.
 fn refusal(request: &Request, desc: &Desc) -> BoxFault
-    requires { ¬ IsSoundBox request.now }
+    requires unsound { ¬ IsSoundBox request.now }
+    requires same { desc.now ≡ boxed_desc request.now }
     ensures { RefusesBox request.now result }
 {
     match why_unfit(request, desc) {

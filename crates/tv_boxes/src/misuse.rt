@@ -1,5 +1,10 @@
 //! Why arguments ask for no box.
 
+ghost use Rattle.std.specs.Prelude.{◌≡◌, ◌++◌, ◌-◌, IfOk, codes, encode_utf8_all, slice_get, string_bytes};
+ghost use Rattle.std.specs.Char.{is_ascii_graphic};
+ghost use Rattle.std.specs.List.{list_all};
+ghost use Rattle.tv_boxes.specs.Misuses.{is_option, misuse_text, option_text};
+
 use std::alloc::{AllocError, Global};
 use tv_valid::Chars;
 
@@ -32,7 +37,9 @@ impl From<AllocError> for Misuse {
 
 impl Misuse {
     /// Says it of these arguments, which are counted from 1.
-    pub fn told(self, alloc: Global, words: &[Chars]) -> Result<String, AllocError> {
+    pub fn told(self, alloc: Global, words: &[Chars]) -> Result<String, AllocError>
+        ensures { IfOk result (λ text. string_bytes text ≡ misuse_text words.now self) }
+    {
         let count = words.len();
         match self {
             Misuse::NoMemory => format!(in alloc; "out of memory"),
@@ -53,23 +60,34 @@ impl Misuse {
 }
 
 // Names the option where that can be shown.
-fn no_option(alloc: Global, words: &[Chars], number: usize) -> Result<String, AllocError> {
+fn no_option(alloc: Global, words: &[Chars], number: usize) -> Result<String, AllocError>
+    ensures { IfOk result (λ text. string_bytes text ≡ option_text number (slice_get words.now (number - 1))) }
+{
     match words.get(number.saturating_sub(1)) {
-        Some(word) if is_option(word.as_slice()) => {
-            let mut told = String::new(alloc);
-            for letter in word.as_slice() {
-                told.push(*letter)?;
-            }
-            told.push_str(" can't be had")?;
-            Ok(told)
-        }
+        Some(word) if is_option(word.as_slice()) => option_told(alloc, word.as_slice()),
         _ => format!(in alloc; "argument {number} is no option"),
     }
 }
 
-fn is_option(word: &[char]) -> bool {
-    match word {
-        ['-', '-', name @ ..] => name.iter().all(|letter| letter.is_ascii_graphic()),
-        _ => false,
+fn option_told(alloc: Global, word: &[char]) -> Result<String, AllocError>
+    ensures { IfOk result (λ text. string_bytes text ≡ encode_utf8_all word.now ++ codes " can't be had") }
+{
+    let mut told = String::new(alloc);
+    for letter in word {
+        told.push(*letter)?;
     }
+    told.push_str(" can't be had")?;
+    Ok(told)
+}
+
+fn is_option(word: &[char]) -> bool
+    ensures { result ≡ is_option word.now }
+{
+    word.starts_with(&['-', '-']) && is_graphic(word)
+}
+
+fn is_graphic(word: &[char]) -> bool
+    ensures { result ≡ list_all is_ascii_graphic word.now }
+{
+    word.iter().all(|letter| letter.is_ascii_graphic())
 }

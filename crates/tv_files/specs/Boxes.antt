@@ -1,6 +1,6 @@
 -- What writing the description of a box comes to.
 use Rattle.std.specs.Prelude.{◌≡◌, ℕ, List, []}
-use Rattle.tv_boxes.specs.Asked.{AsksFor}
+use Rattle.tv_boxes.specs.Asked.{AreAmissFor, AsksFor}
 use Rattle.tv_io.specs.Writer.{Cuts, Seen, Takes}
 use Rattle.tv_program.specs.declared.trouble.Trouble.TheVariants.{NoMemory, Write}
 use Rattle.tv_files.specs.Ends.{End}
@@ -11,6 +11,6 @@ pub data WritesBox (words : List (List ℕ)) (old new : Seen) (end : End) : Type
   written : (text : List ℕ) → AsksFor words text → Takes old new text → end ≡ ended → WritesBox words old new end
   cut : (text : List ℕ) → AsksFor words text → Cuts old new text → end ≡ faulted Write []
       → WritesBox words old new end
-  refused : (message : List ℕ) → ((text : List ℕ) → ¬ AsksFor words text) → new ≡ old → end ≡ unboxed message
+  refused : (message : List ℕ) → AreAmissFor words message → new ≡ old → end ≡ unboxed message
       → WritesBox words old new end
   memory : new ≡ old → end ≡ faulted NoMemory [] → WritesBox words old new end

@@ -8,6 +8,8 @@ returns-then-branch-clause-sound c =
     c.in_ok-desc.ensures c.in_ok-text.ensures.text c.in_ok-is_sound.ensures c.if-branch.true
 
 pub refusal-requires : goal.refusal-requires
-refusal-requires c =
-    box_unsound c.args.request.now (string_bytes c.in_ok-text.text) c.in_ok-desc.desc c.in_ok-is_sound.field-0
-    c.in_ok-desc.ensures c.in_ok-text.ensures.text c.in_ok-is_sound.ensures c.if-branch.false
+refusal-requires c = record {
+  unsound = box_unsound c.args.request.now (string_bytes c.in_ok-text.text) c.in_ok-desc.desc c.in_ok-is_sound.field-0
+      c.in_ok-desc.ensures c.in_ok-text.ensures.text c.in_ok-is_sound.ensures c.if-branch.false;
+  same = c.in_ok-desc.ensures;
+}
