@@ -1,8 +1,7 @@
 //! How `answer` ends: what it writes and tells, its status, and which files were opened.
 
-use crate::endings::{AMPLE, ample_ending, ending, ending_of};
+use crate::endings::{AMPLE, Ending, expect_endings, expect_room_endings, expect_torn_endings};
 use crate::shelf::Shelf;
-use crate::user::User;
 use std::test::Fail;
 use tv_files::Task;
 use tv_test_support::descriptions::SHARED_LETTER;
@@ -30,31 +29,47 @@ button no 12 5 8 "No" no
 end
 "#;
 
-// What is answered, and what comes of it.
-const ANSWERED: [(&str, &str); 7] = [
+const ANSWERED: [Ending<'static>; 7] = [
     (
+        ANSWER,
+        QUESTIONS,
         "end first ok\n",
         "open first\nfocus ok\nend first ok\nstatus 0\nopened 12\n",
     ),
     (
+        ANSWER,
+        QUESTIONS,
         "end second no\nend first ok\n",
         "open first\nfocus ok\nend first ok\nopen second\nfocus yes\nend second no\nstatus 0\nopened 12\n",
     ),
-    ("", "tvdlg: BESIDE: no answers\nstatus 1\nopened 12\n"),
     (
+        ANSWER,
+        QUESTIONS,
+        "",
+        "tvdlg: BESIDE: no answers\nstatus 1\nopened 12\n",
+    ),
+    (
+        ANSWER,
+        QUESTIONS,
         "end first cancel\n",
         "tvdlg: BESIDE: no answers\nstatus 1\nopened 12\n",
     ),
     (
+        ANSWER,
+        QUESTIONS,
         "end first ok\nend page ok\nend second ok\n",
         "tvdlg: BESIDE: no dialog page at line 2\n\
         tvdlg: BESIDE: ok of second can't be so at line 3\nstatus 1\nopened 12\n",
     ),
     (
+        ANSWER,
+        QUESTIONS,
         "end first ok\nfield x 1\n",
         "tvdlg: BESIDE: no field x in first at line 2\nstatus 1\nopened 12\n",
     ),
     (
+        ANSWER,
+        QUESTIONS,
         "end first\n",
         "tvdlg: BESIDE: syntax at line 1\nstatus 1\nopened 12\n",
     ),
@@ -62,19 +77,15 @@ const ANSWERED: [(&str, &str); 7] = [
 
 #[test]
 fn answered_questions(rt: HostRuntime) -> Result<(), Fail> {
-    for &(answers, wanted) in &ANSWERED {
-        let told = ample_ending(rt.alloc(), ANSWER, (QUESTIONS, answers))?;
-        assert_eq!(rt; told.as_str(), wanted, "{answers}");
-    }
-    Ok(())
+    expect_endings(rt.alloc(), &ANSWERED)
 }
 
-// What is asked for, the description, and what is told, with no answers.
-const UNANSWERED: [(Task<'static>, &str, &str); 5] = [
-    (ANSWER, SHARED_LETTER, "F4 line 8\nstatus 1\nopened 1\n"),
+const UNANSWERED: [Ending<'static>; 5] = [
+    (ANSWER, SHARED_LETTER, "", "F4 line 8\nstatus 1\nopened 1\n"),
     (
         ANSWER,
         "tvd 1\n",
+        "",
         "tvdlg: FILE: syntax at line 2\nstatus 1\nopened 1\n",
     ),
     (
@@ -83,6 +94,7 @@ const UNANSWERED: [(Task<'static>, &str, &str); 5] = [
             answers: "NONE",
         },
         QUESTIONS,
+        "",
         "tvdlg: cannot read NONE\nstatus 3\nopened 13\n",
     ),
     (
@@ -91,6 +103,7 @@ const UNANSWERED: [(Task<'static>, &str, &str); 5] = [
             answers: "FULL",
         },
         QUESTIONS,
+        "",
         "tvdlg: no memory\nstatus 3\nopened 14\n",
     ),
     (
@@ -99,48 +112,39 @@ const UNANSWERED: [(Task<'static>, &str, &str); 5] = [
             answers: BESIDE,
         },
         QUESTIONS,
+        "",
         "tvdlg: cannot read NONE\nstatus 3\nopened 3\n",
     ),
 ];
 
 #[test]
 fn unanswered_files(rt: HostRuntime) -> Result<(), Fail> {
-    for &(task, description, wanted) in &UNANSWERED {
-        let told = ample_ending(rt.alloc(), task, (description, ""))?;
-        assert_eq!(rt; told.as_str(), wanted, "{task:?}");
-    }
-    Ok(())
+    expect_endings(rt.alloc(), &UNANSWERED)
 }
 
 #[test]
 fn broken_answers(rt: HostRuntime) -> Result<(), Fail> {
-    let files = Shelf::torn(QUESTIONS, "end first ok\n", BESIDE);
-    let told = ending_of(
+    expect_torn_endings(
         rt.alloc(),
-        Ok(ANSWER),
-        files,
-        User::silent(),
-        (AMPLE, AMPLE),
-    )?;
-    assert_eq!(rt;
-        told.as_str(),
-        "tvdlg: cannot read BESIDE\nstatus 3\nopened 12\n"
-    );
-    Ok(())
+        &[(
+            ANSWER,
+            QUESTIONS,
+            "end first ok\n",
+            BESIDE,
+            "tvdlg: cannot read BESIDE\nstatus 3\nopened 12\n",
+        )],
+    )
 }
 
 #[test]
 fn full_output(rt: HostRuntime) -> Result<(), Fail> {
-    let told = ending(
+    expect_room_endings(
         rt.alloc(),
-        Ok(ANSWER),
-        (QUESTIONS, "end first ok\n"),
-        (6, true),
-        AMPLE,
-    )?;
-    assert_eq!(rt;
-        told.as_str(),
-        "open ftvdlg: cannot write\nstatus 3\nopened 12\n"
-    );
-    Ok(())
+        &[(
+            ANSWER,
+            (QUESTIONS, "end first ok\n"),
+            ((6, true), AMPLE),
+            "open ftvdlg: cannot write\nstatus 3\nopened 12\n",
+        )],
+    )
 }

@@ -30,6 +30,12 @@ pub const RUN: Task<'static> = Task::Run {
     script: BESIDE,
 };
 
+/// A description that is filled with the file beside it.
+pub const FILL: Task<'static> = Task::Fill {
+    file: FILE,
+    answers: BESIDE,
+};
+
 /// The screen at each `shot` of the file beside the description.
 pub const PICTURE_ALL: Task<'static> = Task::PictureAll {
     file: FILE,
@@ -47,6 +53,51 @@ pub type Room = (usize, bool);
 
 /// More room than these streams need.
 pub const AMPLE: Room = (100_000, true);
+
+/// A task, the description, the file beside it, and what is told.
+pub type Ending<'a> = (Task<'a>, &'a str, &'a str, &'a str);
+
+/// Fails where one of these tasks with ample room comes to something else.
+pub fn expect_endings(alloc: Global, endings: &[Ending<'_>]) -> Result<(), Fail> {
+    for (task, description, beside, wanted) in endings {
+        let told = ample_ending(alloc, *task, (*description, *beside))?;
+        expect_told(&told, wanted)?;
+    }
+    Ok(())
+}
+
+/// A task, the description and the file beside it, the room of standard output and of standard error, and what is told.
+pub type RoomEnding<'a> = (Task<'a>, (&'a str, &'a str), (Room, Room), &'a str);
+
+/// Fails where one of these tasks comes to something else.
+pub fn expect_room_endings(alloc: Global, endings: &[RoomEnding<'_>]) -> Result<(), Fail> {
+    for (task, texts, rooms, wanted) in endings {
+        let told = ending(alloc, Ok(*task), *texts, rooms.0, rooms.1)?;
+        expect_told(&told, wanted)?;
+    }
+    Ok(())
+}
+
+/// A task, the description, the file beside it, which of the two breaks off at its end, and what is told.
+pub type TornEnding<'a> = (Task<'a>, &'a str, &'a str, &'a str, &'a str);
+
+/// Fails where one of these tasks with ample room comes to something else.
+pub fn expect_torn_endings(alloc: Global, endings: &[TornEnding<'_>]) -> Result<(), Fail> {
+    for (task, description, beside, path, wanted) in endings {
+        let files = Shelf::torn(description, beside, path);
+        let told = ending_of(alloc, Ok(*task), files, User::silent(), (AMPLE, AMPLE))?;
+        expect_told(&told, wanted)?;
+    }
+    Ok(())
+}
+
+/// Fails where something else is told than is wanted.
+pub fn expect_told(told: &str, wanted: &str) -> Result<(), Fail> {
+    if told == wanted {
+        return Ok(());
+    }
+    Err(Fail::new(format_args!("told:\n{told}wanted:\n{wanted}")))
+}
 
 /// What a task with ample room comes to, about these texts: what stands on standard output, then what stands on standard
 /// error, then the status, then what was opened.
@@ -153,8 +204,7 @@ key O ok
 end
 ";
 
-// What is asked for, the description, the text beside it, and what is told.
-const TASKS: [(Task<'static>, &str, &str, &str); 19] = [
+const TASKS: [Ending<'static>; 19] = [
     (
         CHECK,
         CANCEL,
@@ -253,11 +303,7 @@ const TASKS: [(Task<'static>, &str, &str, &str); 19] = [
 
 #[test]
 fn tasks_and_their_faults(rt: HostRuntime) -> Result<(), Fail> {
-    for &(task, description, beside, wanted) in &TASKS {
-        let told = ending(rt.alloc(), Ok(task), (description, beside), AMPLE, AMPLE)?;
-        assert_eq!(rt; told.as_str(), wanted, "{task:?}");
-    }
-    Ok(())
+    expect_endings(rt.alloc(), &TASKS)
 }
 
 const NO_DESCRIPTION: Task<'static> = Task::Check { file: "NONE" };
@@ -272,8 +318,7 @@ const NO_SCRIPT: Task<'static> = Task::Run {
     script: "NONE",
 };
 
-// What is asked for, the description, and what is told.
-const MISSING: [(Task<'static>, &str, &str); 13] = [
+const MISSING: [Ending<'static>; 13] = [
     (
         Task::Record {
             file: FILE,
@@ -281,6 +326,7 @@ const MISSING: [(Task<'static>, &str, &str); 13] = [
             colours: Colours::Sixteen,
         },
         CANCEL,
+        "",
         "tvdlg: cannot write NONE\nstatus 3\nopened 1\n",
     ),
     (
@@ -290,11 +336,13 @@ const MISSING: [(Task<'static>, &str, &str); 13] = [
             colours: Colours::Sixteen,
         },
         "tvd 1\n",
+        "",
         "tvdlg: FILE: syntax at line 2\nstatus 1\nopened 1\n",
     ),
     (
         Task::Check { file: "FULL" },
         CANCEL,
+        "",
         "tvdlg: no memory\nstatus 3\nopened 4\n",
     ),
     (
@@ -303,6 +351,7 @@ const MISSING: [(Task<'static>, &str, &str); 13] = [
             colours: Colours::Sixteen,
         },
         CANCEL,
+        "",
         "tvdlg: no memory\nstatus 3\nopened 4\n",
     ),
     (
@@ -311,6 +360,7 @@ const MISSING: [(Task<'static>, &str, &str); 13] = [
             certificate: "FULL",
         },
         CANCEL,
+        "",
         "tvdlg: no memory\nstatus 3\nopened 14\n",
     ),
     (
@@ -319,11 +369,13 @@ const MISSING: [(Task<'static>, &str, &str); 13] = [
             script: "FULL",
         },
         CANCEL,
+        "",
         "tvdlg: no memory\nstatus 3\nopened 14\n",
     ),
     (
         NO_DESCRIPTION,
         CANCEL,
+        "",
         "tvdlg: cannot read NONE\nstatus 3\nopened 3\n",
     ),
     (
@@ -332,47 +384,48 @@ const MISSING: [(Task<'static>, &str, &str); 13] = [
             colours: Colours::Sixteen,
         },
         CANCEL,
+        "",
         "tvdlg: cannot read NONE\nstatus 3\nopened 3\n",
     ),
     (
         NO_CERTIFICATE,
         CANCEL,
+        "",
         "tvdlg: cannot read NONE\nstatus 3\nopened 13\n",
     ),
     (
         NO_CERTIFICATE,
         SHARED_LETTER,
+        "",
         "tvdlg: cannot read NONE\nstatus 3\nopened 13\n",
     ),
     (
         NO_CERTIFICATE,
         "tvd 1\n",
+        "",
         "tvdlg: FILE: syntax at line 2\nstatus 1\nopened 1\n",
     ),
     (
         NO_SCRIPT,
         CANCEL,
+        "",
         "tvdlg: cannot read NONE\nstatus 3\nopened 13\n",
     ),
     (
         NO_SCRIPT,
         WITHOUT_CANCEL,
+        "",
         "tvdlg: cannot read NONE\nstatus 3\nopened 13\n",
     ),
 ];
 
 #[test]
 fn missing_files(rt: HostRuntime) -> Result<(), Fail> {
-    for &(task, description, wanted) in &MISSING {
-        let told = ending(rt.alloc(), Ok(task), (description, ""), AMPLE, AMPLE)?;
-        assert_eq!(rt; told.as_str(), wanted, "{task:?}");
-    }
-    Ok(())
+    expect_endings(rt.alloc(), &MISSING)
 }
 
-// The description, the file beside it, which of them breaks off at its end, and what is told. What the lines before wrote of a
-// script that breaks off was written, and the line that has no end isn't performed.
-const TORN: [(Task<'static>, &str, &str, &str, &str); 7] = [
+// What the lines before wrote of a script that breaks off was written, and the line that has no end isn't performed.
+const TORN: [TornEnding<'static>; 7] = [
     (
         CHECK,
         CANCEL,
@@ -426,10 +479,17 @@ const TORN: [(Task<'static>, &str, &str, &str, &str); 7] = [
 
 #[test]
 fn files_that_break_off(rt: HostRuntime) -> Result<(), Fail> {
-    for &(task, description, beside, path, wanted) in &TORN {
-        let files = Shelf::torn(description, beside, path);
-        let told = ending_of(rt.alloc(), Ok(task), files, User::silent(), (AMPLE, AMPLE))?;
-        assert_eq!(rt; told.as_str(), wanted, "{task:?}");
+    expect_torn_endings(rt.alloc(), &TORN)
+}
+
+/// Fails where texts that are too long aren't told as such, or others are: whether these are, of tasks with ample room, and what
+/// is told then.
+pub fn expect_bound(alloc: Global, are_too_long: bool, endings: &[Ending<'_>]) -> Result<(), Fail> {
+    for (task, description, beside, message) in endings {
+        let told = ample_ending(alloc, *task, (*description, *beside))?;
+        if (told.as_str() == *message) != are_too_long {
+            return Err(Fail::new(format_args!("{task:?}: {told}")));
+        }
     }
     Ok(())
 }
@@ -437,30 +497,28 @@ fn files_that_break_off(rt: HostRuntime) -> Result<(), Fail> {
 // Texts of comments, so many bytes past what each may have.
 #[test]
 fn long_texts(rt: HostRuntime) -> Result<(), Fail> {
+    const TOO_LONG: &str = "tvdlg: BESIDE: too long\nstatus 1\nopened 12\n";
     let alloc = rt.alloc();
-    for (past, is_too_long) in [(0, false), (1, true), (50_000, true)] {
+    for (past, are_too_long) in [(0, false), (1, true), (50_000, true)] {
         let long = "#".repeat(alloc, 262_144 + past)?;
         let script = "#".repeat(alloc, 1_048_576 + past)?;
-        for &(task, texts, message) in &[
+        let endings: [Ending<'_>; 4] = [
             (
                 CHECK,
-                (long.as_str(), ""),
+                long.as_str(),
+                "",
                 "tvdlg: FILE: too long\nstatus 1\nopened 1\n",
             ),
-            (
-                ACCEPT,
-                (CANCEL, long.as_str()),
-                "tvdlg: BESIDE: too long\nstatus 1\nopened 12\n",
-            ),
+            (ACCEPT, CANCEL, long.as_str(), TOO_LONG),
             (
                 RUN,
-                (CANCEL, script.as_str()),
+                CANCEL,
+                script.as_str(),
                 "open a\nfocus c\ntvdlg: BESIDE: too long\nstatus 1\nopened 12\n",
             ),
-        ] {
-            let told = ending(alloc, Ok(task), texts, AMPLE, AMPLE)?;
-            assert_eq!(rt; told.as_str() == message, is_too_long, "{task:?}: {told}");
-        }
+            (FILL, CANCEL, script.as_str(), TOO_LONG),
+        ];
+        expect_bound(alloc, are_too_long, &endings)?;
     }
     Ok(())
 }

@@ -1,6 +1,6 @@
 //! How `explain` ends: what it writes, its status, and which files were opened.
 
-use crate::endings::{EXCHANGED, ample_ending};
+use crate::endings::{EXCHANGED, Ending, expect_endings};
 use crate::shelf::Shelf;
 use std::test::Fail;
 use tv_files::{Manner, Task};
@@ -29,8 +29,7 @@ const EXPLAIN_MISSING: Task<'static> = Task::ExplainBoth {
     manner: Manner::Plain,
 };
 
-// What is asked for, the description, the text beside it, and what is told.
-const TASKS: [(Task<'static>, &str, &str, &str); 15] = [
+const TASKS: [Ending<'static>; 15] = [
     (EXPLAIN, CANCEL, "", "status 0\nopened 1\n"),
     (EXPLAIN, SHARED_LETTER, "", SHARED_LETTER_EXPLAINED),
     (EXPLAIN, "# none\ntvd 1\n", "", NO_SCREEN_EXPLAINED),
@@ -133,25 +132,21 @@ opened 1
 
 #[test]
 fn explanations(rt: HostRuntime) -> Result<(), Fail> {
-    for &(task, description, beside, wanted) in &TASKS {
-        let told = ample_ending(rt.alloc(), task, (description, beside))?;
-        assert_eq!(rt; told.as_str(), wanted, "{task:?}");
-    }
-    Ok(())
+    expect_endings(rt.alloc(), &TASKS)
 }
 
 // A script and a certificate of more bytes than are read.
 #[test]
 fn long_texts(rt: HostRuntime) -> Result<(), Fail> {
+    const TOO_LONG: &str = "tvdlg: BESIDE: too long\nstatus 1\nopened 12\n";
     let alloc = rt.alloc();
     let comment = "#".repeat(alloc, 262_145)?;
     let certificate = format!(in alloc; "tvcert 1\n{comment}")?;
-    for text in [comment.as_str(), certificate.as_str()] {
-        let told = ample_ending(alloc, EXPLAIN_BOTH, (CANCEL, text))?;
-        assert_eq!(rt;
-            told.as_str(),
-            "tvdlg: BESIDE: too long\nstatus 1\nopened 12\n"
-        );
-    }
-    Ok(())
+    expect_endings(
+        alloc,
+        &[
+            (EXPLAIN_BOTH, CANCEL, comment.as_str(), TOO_LONG),
+            (EXPLAIN_BOTH, CANCEL, certificate.as_str(), TOO_LONG),
+        ],
+    )
 }

@@ -1,9 +1,12 @@
 //! How the program ends where a stream fails, or where there is nothing to do.
 
-use crate::endings::{AMPLE, CHECK, RUN, Room, ending, status};
+use crate::endings::{
+    AMPLE, CHECK, RUN, Room, RoomEnding, ending, expect_room_endings, expect_told, status,
+};
 use crate::shelf::Shelf;
 use crate::sink::Sink;
 use crate::user::User;
+use std::alloc::Global;
 use std::test::Fail;
 use tv_files::{DirectStream, NoTask, tell_no_memory};
 use tv_test_support::descriptions::{CANCEL, SHARED_LETTER};
@@ -19,102 +22,106 @@ status 3
 opened 1
 ";
 
-// The description that is checked, the room of both streams, and what is told.
-const FAILING: [(&str, Room, Room, &str); 11] = [
+const FAILING: [RoomEnding<'static>; 11] = [
     (
-        CANCEL,
-        (0, true),
-        AMPLE,
+        CHECK,
+        (CANCEL, ""),
+        ((0, true), AMPLE),
         "tvdlg: cannot write\nstatus 3\nopened 1\n",
     ),
     (
-        CANCEL,
-        (8, true),
-        AMPLE,
+        CHECK,
+        (CANCEL, ""),
+        ((8, true), AMPLE),
         "tvcert 1tvdlg: cannot write\nstatus 3\nopened 1\n",
     ),
-    (CANCEL, (1000, false), AMPLE, UNFLUSHED),
-    (CANCEL, (0, true), (0, true), "status 3\nopened 1\n"),
+    (CHECK, (CANCEL, ""), ((1000, false), AMPLE), UNFLUSHED),
     (
-        SHARED_LETTER,
-        (0, true),
-        AMPLE,
+        CHECK,
+        (CANCEL, ""),
+        ((0, true), (0, true)),
+        "status 3\nopened 1\n",
+    ),
+    (
+        CHECK,
+        (SHARED_LETTER, ""),
+        ((0, true), AMPLE),
         "tvdlg: cannot write\nstatus 3\nopened 1\n",
     ),
     (
-        SHARED_LETTER,
-        (5, true),
-        AMPLE,
+        CHECK,
+        (SHARED_LETTER, ""),
+        ((5, true), AMPLE),
         "F4 litvdlg: cannot write\nstatus 3\nopened 1\n",
     ),
     (
-        SHARED_LETTER,
-        (1000, false),
-        AMPLE,
+        CHECK,
+        (SHARED_LETTER, ""),
+        ((1000, false), AMPLE),
         "F4 line 8\ntvdlg: cannot write\nstatus 3\nopened 1\n",
     ),
     (
-        SHARED_LETTER,
-        AMPLE,
-        (0, false),
+        CHECK,
+        (SHARED_LETTER, ""),
+        (AMPLE, (0, false)),
         "F4 line 8\nstatus 1\nopened 1\n",
     ),
-    ("tvd 3\n", AMPLE, (0, true), "status 1\nopened 1\n"),
     (
-        "tvd 3\n",
-        AMPLE,
-        (11, true),
+        CHECK,
+        ("tvd 3\n", ""),
+        (AMPLE, (0, true)),
+        "status 1\nopened 1\n",
+    ),
+    (
+        CHECK,
+        ("tvd 3\n", ""),
+        (AMPLE, (11, true)),
         "tvdlg: FILEstatus 1\nopened 1\n",
     ),
     (
-        "tvd 3\n",
-        AMPLE,
-        (1000, false),
+        CHECK,
+        ("tvd 3\n", ""),
+        (AMPLE, (1000, false)),
         "tvdlg: FILE: unknown version\nstatus 1\nopened 1\n",
     ),
 ];
 
 #[test]
 fn streams_that_fail(rt: HostRuntime) -> Result<(), Fail> {
-    for &(description, out_room, err_room, wanted) in &FAILING {
-        let told = ending(rt.alloc(), Ok(CHECK), (description, ""), out_room, err_room)?;
-        assert_eq!(rt; told.as_str(), wanted, "{out_room:?} {err_room:?}");
-    }
-    Ok(())
+    expect_room_endings(rt.alloc(), &FAILING)
 }
 
-// The script of a run, the room of standard output, and what is told: the first that failed, alone. The log of the start has 15
-// bytes.
-const FAILING_RUNS: [(&str, Room, &str); 4] = [
+// The first that failed is told, alone. The log of the start has 15 bytes.
+const FAILING_RUNS: [RoomEnding<'static>; 4] = [
     (
-        "key Foo\n",
-        (0, true),
+        RUN,
+        (CANCEL, "key Foo\n"),
+        ((0, true), AMPLE),
         "tvdlg: cannot write\nstatus 3\nopened 12\n",
     ),
     (
-        "key Foo\n",
-        (7, true),
+        RUN,
+        (CANCEL, "key Foo\n"),
+        ((7, true), AMPLE),
         "open a\ntvdlg: cannot write\nstatus 3\nopened 12\n",
     ),
     (
-        "key Esc\nkey Foo\n",
-        (20, true),
+        RUN,
+        (CANCEL, "key Esc\nkey Foo\n"),
+        ((20, true), AMPLE),
         "open a\nfocus c\nend atvdlg: cannot write\nstatus 3\nopened 12\n",
     ),
     (
-        "key Foo\n",
-        (15, true),
+        RUN,
+        (CANCEL, "key Foo\n"),
+        ((15, true), AMPLE),
         "open a\nfocus c\ntvdlg: BESIDE: syntax at line 1\nstatus 1\nopened 12\n",
     ),
 ];
 
 #[test]
 fn runs_whose_output_fails(rt: HostRuntime) -> Result<(), Fail> {
-    for &(script, room, wanted) in &FAILING_RUNS {
-        let told = ending(rt.alloc(), Ok(RUN), (CANCEL, script), room, AMPLE)?;
-        assert_eq!(rt; told.as_str(), wanted, "{script} {room:?}");
-    }
-    Ok(())
+    expect_room_endings(rt.alloc(), &FAILING_RUNS)
 }
 
 // More than is kept back, so that the stream fails while the script is performed.
@@ -132,7 +139,8 @@ fn streams_that_fail_in_a_run(rt: HostRuntime) -> Result<(), Fail> {
     Ok(())
 }
 
-const IDLE: [((usize, bool), &str, &str); 4] = [
+// The room of standard error, and what is told of a usage and where there is no memory.
+const IDLE: [(Room, &str, &str); 4] = [
     (
         AMPLE,
         "a\nstatus 2\nopened 0\n",
@@ -147,15 +155,18 @@ const IDLE: [((usize, bool), &str, &str); 4] = [
     ),
 ];
 
+fn expect_idle(alloc: Global, asked: NoTask, room: Room, wanted: &str) -> Result<(), Fail> {
+    let told = ending(alloc, Err(asked), ("", ""), AMPLE, room)?;
+    expect_told(&told, wanted)
+}
+
 #[test]
 fn nothing_to_do(rt: HostRuntime) -> Result<(), Fail> {
     let alloc = rt.alloc();
     for &(room, told, untold) in &IDLE {
         let text = String::from_str(alloc, "a\n")?;
-        let usage = ending(alloc, Err(NoTask::Usage(text)), ("", ""), AMPLE, room)?;
-        assert_eq!(rt; usage.as_str(), told, "{room:?}");
-        let no_memory = ending(alloc, Err(NoTask::NoMemory), ("", ""), AMPLE, room)?;
-        assert_eq!(rt; no_memory.as_str(), untold, "{room:?}");
+        expect_idle(alloc, NoTask::Usage(text), room, told)?;
+        expect_idle(alloc, NoTask::NoMemory, room, untold)?;
     }
     Ok(())
 }

@@ -1,6 +1,6 @@
 //! Long paths, and texts as long as they may be.
 
-use crate::endings::{RUN, ample_ending};
+use crate::endings::{RUN, expect_endings, expect_told};
 use crate::gallery::Gallery;
 use crate::sink::Sink;
 use crate::user::User;
@@ -54,6 +54,12 @@ fn lone_ending(alloc: Global, path: &str, task: Task<'_>) -> Result<String, Fail
     Ok(format!(in alloc; "{text}{message}status {status}\n")?)
 }
 
+// Fails where something else stands there.
+fn expect_lone(alloc: Global, path: &str, task: Task<'_>, wanted: &str) -> Result<(), Fail> {
+    let told = lone_ending(alloc, path, task)?;
+    expect_told(&told, wanted)
+}
+
 fn status(alloc: Global, files: Lone<'_>, task: Task<'_>, out: &mut Sink, err: &mut Sink) -> u8 {
     let mut world = World {
         files,
@@ -78,13 +84,10 @@ fn long_paths(rt: HostRuntime) -> Result<(), Fail> {
     let path = long_path(alloc, "a.t")?;
     assert_eq!(rt; path.len(), 4000);
     let file = path.as_str();
-    let checked = lone_ending(alloc, file, Task::Check { file })?;
     let wanted = format!(in alloc; "{CANCEL_CERTIFICATE}status 0\n")?;
-    assert_eq!(rt; checked.as_str(), wanted.as_str());
-    let performed = lone_ending(alloc, file, Task::Run { file, script: file })?;
+    expect_lone(alloc, file, Task::Check { file }, &wanted)?;
     let wanted = format!(in alloc; "open a\nfocus c\ntvdlg: {path}: syntax at line 1\nstatus 1\n")?;
-    assert_eq!(rt; performed.as_str(), wanted.as_str());
-    Ok(())
+    expect_lone(alloc, file, Task::Run { file, script: file }, &wanted)
 }
 
 // Each path is taken as it stands, and there is memory for it.
@@ -94,8 +97,7 @@ fn odd_paths(rt: HostRuntime) -> Result<(), Fail> {
     let alloc = rt.alloc();
     let wanted = format!(in alloc; "{CANCEL_CERTIFICATE}status 0\n")?;
     for &path in &PATHS {
-        let told = lone_ending(alloc, path, Task::Check { file: path })?;
-        assert_eq!(rt; told.as_str(), wanted.as_str(), "{path:?}");
+        expect_lone(alloc, path, Task::Check { file: path }, &wanted)?;
     }
     Ok(())
 }
@@ -107,10 +109,8 @@ fn long_paths_of_missing_files(rt: HostRuntime) -> Result<(), Fail> {
     let task = Task::Check {
         file: path.as_str(),
     };
-    let told = lone_ending(alloc, "a.t", task)?;
     let wanted = format!(in alloc; "tvdlg: cannot read {path}\nstatus 3\n")?;
-    assert_eq!(rt; told.as_str(), wanted.as_str());
-    Ok(())
+    expect_lone(alloc, "a.t", task, &wanted)
 }
 
 // A script of 262,146 bytes, more than a description may have. Its last line ends the dialog.
@@ -124,10 +124,6 @@ fn long_script(alloc: Global) -> Result<String, AllocError> {
 fn long_scripts_are_run_whole(rt: HostRuntime) -> Result<(), Fail> {
     let script = long_script(rt.alloc())?;
     assert_eq!(rt; script.len(), 262_146);
-    let told = ample_ending(rt.alloc(), RUN, (CANCEL, script.as_str()))?;
-    assert_eq!(rt;
-        told.as_str(),
-        "open a\nfocus c\nend a cancel\nstatus 0\nopened 12\n"
-    );
-    Ok(())
+    let told = "open a\nfocus c\nend a cancel\nstatus 0\nopened 12\n";
+    expect_endings(rt.alloc(), &[(RUN, CANCEL, script.as_str(), told)])
 }

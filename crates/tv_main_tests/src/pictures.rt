@@ -1,6 +1,6 @@
 //! Pictures: the screen that a script leaves, and those at its shots, drawn by the program over files in memory.
 
-use crate::endings::{PICTURE_ALL, ample_ending};
+use crate::endings::{Ending, PICTURE_ALL, expect_endings, expect_told};
 use crate::gallery::Gallery;
 use crate::shelf::Shelf;
 use crate::sink::Sink;
@@ -85,25 +85,32 @@ status 0
 opened 12
 "##;
 
-const ENDINGS: &[(&str, &str, &str)] = &[
-    (CANCEL, "key Tab\n", FOCUSED),
-    (CANCEL, "shot\nkey Tab\ncolors\n", FOCUSED),
+const ENDINGS: [Ending<'static>; 5] = [
+    (PICTURE, CANCEL, "key Tab\n", FOCUSED),
+    (PICTURE, CANCEL, "shot\nkey Tab\ncolors\n", FOCUSED),
     (
+        PICTURE,
         CANCEL,
         "key Tab\nkey Foo\n",
         "tvdlg: BESIDE: syntax at line 2\nstatus 1\nopened 12\n",
     ),
-    (ORDER, "", "tvdlg: view refused\nstatus 1\nopened 12\n"),
-    (SHARED_LETTER, "", "F4 line 8\nstatus 1\nopened 12\n"),
+    (
+        PICTURE,
+        ORDER,
+        "",
+        "tvdlg: view refused\nstatus 1\nopened 12\n",
+    ),
+    (
+        PICTURE,
+        SHARED_LETTER,
+        "",
+        "F4 line 8\nstatus 1\nopened 12\n",
+    ),
 ];
 
 #[test]
 fn pictures(rt: HostRuntime) -> Result<(), Fail> {
-    for (description, script, wanted) in ENDINGS {
-        let found = ample_ending(rt.alloc(), PICTURE, (*description, *script))?;
-        assert_eq!(rt; found.as_str(), *wanted, "of:\n{description}in:\n{script}");
-    }
-    Ok(())
+    expect_endings(rt.alloc(), &ENDINGS)
 }
 
 // The desktop alone, once the dialog is ended.
@@ -181,23 +188,25 @@ fn drawn(alloc: Global, texts: (&str, &str), room: usize) -> Result<String, Fail
     all_drawn(alloc, PICTURE_ALL, files, room)
 }
 
+fn expect_drawn(alloc: Global, script: &str, room: usize, wanted: &str) -> Result<(), Fail> {
+    let found = drawn(alloc, (CANCEL, script), room)?;
+    expect_told(&found, wanted)
+}
+
 #[test]
 fn each_shot_is_drawn(rt: HostRuntime) -> Result<(), Fail> {
     let alloc = rt.alloc();
     let focused = FOCUSED
         .strip_suffix("status 0\nopened 12\n")
         .ok_or("no picture")?;
-    let found = drawn(alloc, (CANCEL, "shot\ncolors\nkey Esc\nshot\n"), 9)?;
     let wanted = format!(in alloc;
         "BESIDE-1.svg\n{focused}BESIDE-2.svg\n{EMPTY}status 0\nopened 12\n"
     )?;
-    assert_eq!(rt; found.as_str(), wanted.as_str());
-    let found = drawn(alloc, (CANCEL, "shot\nshot\nshot\n"), 1)?;
+    expect_drawn(alloc, "shot\ncolors\nkey Esc\nshot\n", 9, &wanted)?;
     let wanted = format!(in alloc;
         "BESIDE-1.svg\n{focused}tvdlg: cannot write BESIDE-2.svg\nstatus 3\nopened 12\n"
     )?;
-    assert_eq!(rt; found.as_str(), wanted.as_str());
-    Ok(())
+    expect_drawn(alloc, "shot\nshot\nshot\n", 1, &wanted)
 }
 
 // A description, its script, for how many pictures there is room, and what is told where none is drawn.
@@ -234,7 +243,7 @@ const UNDRAWN: [(&str, &str, usize, &str); 6] = [
 fn nothing_is_drawn(rt: HostRuntime) -> Result<(), Fail> {
     for &(description, script, room, wanted) in &UNDRAWN {
         let found = drawn(rt.alloc(), (description, script), room)?;
-        assert_eq!(rt; found.as_str(), wanted, "of:\n{description}in:\n{script}");
+        expect_told(&found, wanted)?;
     }
     Ok(())
 }
@@ -249,15 +258,8 @@ fn unread_scripts(rt: HostRuntime) -> Result<(), Fail> {
     };
     let files = Shelf::new(CANCEL, "");
     let found = all_drawn(alloc, missing, files, 9)?;
-    assert_eq!(rt;
-        found.as_str(),
-        "tvdlg: cannot read NONE\nstatus 3\nopened 13\n"
-    );
+    expect_told(&found, "tvdlg: cannot read NONE\nstatus 3\nopened 13\n")?;
     let files = Shelf::torn(CANCEL, "shot\n", Shelf::BESIDE);
     let found = all_drawn(alloc, PICTURE_ALL, files, 9)?;
-    assert_eq!(rt;
-        found.as_str(),
-        "tvdlg: cannot read BESIDE\nstatus 3\nopened 12\n"
-    );
-    Ok(())
+    expect_told(&found, "tvdlg: cannot read BESIDE\nstatus 3\nopened 12\n")
 }

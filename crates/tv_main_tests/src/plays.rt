@@ -1,6 +1,6 @@
 //! How a description that is played ends: what both streams took, and the status.
 
-use crate::endings::{AMPLE, PLAY, Room, ending_of};
+use crate::endings::{AMPLE, PLAY, Room, ending_of, expect_told};
 use crate::shelf::Shelf;
 use crate::user::User;
 use std::alloc::Global;
@@ -75,7 +75,7 @@ fn ends_of_a_play(rt: HostRuntime) -> Result<(), Fail> {
     for &(sent, is_torn, out_room, log, rest) in &PLAYS {
         let told = played(alloc, User::new(sent, is_torn), (out_room, AMPLE))?;
         let wanted = format!(in alloc; "{log}{SHOWN}{rest}opened 1\n")?;
-        assert_eq!(rt; told, wanted, "{sent:?}");
+        expect_told(&told, &wanted)?;
     }
     Ok(())
 }
@@ -86,8 +86,7 @@ fn screen_that_fails(rt: HostRuntime) -> Result<(), Fail> {
     for &sent in &[b"\x1b", b"\x1c"] {
         let user = User::new(sent, false);
         let told = played(rt.alloc(), user, (AMPLE, (8, true)))?;
-        let wanted = String::from_str(rt.alloc(), "open a\nfocus c\n{status 3\nopened 1\n")?;
-        assert_eq!(rt; told, wanted);
+        expect_told(&told, "open a\nfocus c\n{status 3\nopened 1\n")?;
     }
     Ok(())
 }

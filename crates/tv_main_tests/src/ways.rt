@@ -1,6 +1,6 @@
 //! How `ways` ends: what it writes, and its status.
 
-use crate::endings::{AMPLE, Room, ending};
+use crate::endings::{AMPLE, RoomEnding, expect_room_endings};
 use crate::explaining::{SHARED_LETTER_EXPLAINED, VERSION_EXPLAINED};
 use crate::shelf::Shelf;
 use std::test::Fail;
@@ -19,76 +19,85 @@ fn way<'a>(dialog: &'a str, end: Command) -> Task<'a> {
     }
 }
 
-// The description, the room for what is written, and what is told.
-const TASKS: [(&str, Room, &str); 5] = [
+const TASKS: [RoomEnding<'static>; 5] = [
     (
-        CANCEL,
-        AMPLE,
+        WAYS,
+        (CANCEL, ""),
+        (AMPLE, AMPLE),
         "dialog a\nend cancel: key Esc\nfocus c: at the start\nstatus 0\nopened 1\n",
     ),
-    (SHARED_LETTER, AMPLE, SHARED_LETTER_EXPLAINED),
-    ("tvd 3\n", AMPLE, VERSION_EXPLAINED),
     (
-        CANCEL,
-        (12, true),
+        WAYS,
+        (SHARED_LETTER, ""),
+        (AMPLE, AMPLE),
+        SHARED_LETTER_EXPLAINED,
+    ),
+    (WAYS, ("tvd 3\n", ""), (AMPLE, AMPLE), VERSION_EXPLAINED),
+    (
+        WAYS,
+        (CANCEL, ""),
+        ((12, true), AMPLE),
         "dialog a\nendtvdlg: cannot write\nstatus 3\nopened 1\n",
     ),
     (
-        SHARED_LETTER,
-        (6, true),
+        WAYS,
+        (SHARED_LETTER, ""),
+        ((6, true), AMPLE),
         "FILE:8tvdlg: cannot write\nstatus 3\nopened 1\n",
     ),
 ];
 
 #[test]
 fn tells_ways(rt: HostRuntime) -> Result<(), Fail> {
-    for &(description, room, wanted) in &TASKS {
-        let told = ending(rt.alloc(), Ok(WAYS), (description, ""), room, AMPLE)?;
-        assert_eq!(rt; told.as_str(), wanted);
-    }
-    Ok(())
+    expect_room_endings(rt.alloc(), &TASKS)
 }
 
 #[test]
 fn one_way(rt: HostRuntime) -> Result<(), Fail> {
     let cancel = way("a", Command::CANCEL);
-    let tasks = [
-        (CANCEL, cancel, AMPLE, "key Esc\nstatus 0\nopened 1\n"),
+    let tasks: [RoomEnding<'_>; 7] = [
         (
-            ORDER,
+            cancel,
+            (CANCEL, ""),
+            (AMPLE, AMPLE),
+            "key Esc\nstatus 0\nopened 1\n",
+        ),
+        (
             way("b", Command::OK),
-            AMPLE,
+            (ORDER, ""),
+            (AMPLE, AMPLE),
             "key Alt-G\nkey Alt-N\nkey Tab\ntype \"1\"\nkey Alt-O\nstatus 0\nopened 1\n",
         ),
         (
-            CANCEL,
             way("b", Command::OK),
-            AMPLE,
+            (CANCEL, ""),
+            (AMPLE, AMPLE),
             "tvdlg: FILE: no dialog b\nstatus 1\nopened 1\n",
         ),
         (
-            CANCEL,
             way("a", Command::YES),
-            AMPLE,
+            (CANCEL, ""),
+            (AMPLE, AMPLE),
             "tvdlg: FILE: a doesn't end by yes\nstatus 1\nopened 1\n",
         ),
         (
-            CLOSED,
             cancel,
-            AMPLE,
+            (CLOSED, ""),
+            (AMPLE, AMPLE),
             "tvdlg: FILE: end cancel: never (nothing opens the dialog)\nstatus 1\nopened 1\n",
         ),
-        (SHARED_LETTER, cancel, AMPLE, SHARED_LETTER_EXPLAINED),
         (
-            CANCEL,
             cancel,
-            (2, true),
+            (SHARED_LETTER, ""),
+            (AMPLE, AMPLE),
+            SHARED_LETTER_EXPLAINED,
+        ),
+        (
+            cancel,
+            (CANCEL, ""),
+            ((2, true), AMPLE),
             "ketvdlg: cannot write\nstatus 3\nopened 1\n",
         ),
     ];
-    for (description, task, room, wanted) in tasks {
-        let told = ending(rt.alloc(), Ok(task), (description, ""), room, AMPLE)?;
-        assert_eq!(rt; told.as_str(), wanted);
-    }
-    Ok(())
+    expect_room_endings(rt.alloc(), &tasks)
 }
