@@ -1,4 +1,5 @@
 pub mod CutLemmas
+mod IdleLemmas
 mod RunningLemmas
 mod ScriptLemmas
 mod SpelledLemmas

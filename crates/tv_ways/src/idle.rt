@@ -1,7 +1,8 @@
 //! Commands that do nothing where they are given.
 
 ghost use Rattle.std.specs.Prelude.{◌≡◌, ◌++◌, flat_map, IfOk, OnOk};
-ghost use Rattle.tv_ways.specs.Idle.{idle_buttons, idle_commands, idle_items, is_desktop_command, is_end_command, is_idle_kind};
+ghost use Rattle.tv_model.specs.Faults.{IsSound};
+ghost use Rattle.tv_ways.specs.Idle.{AreIdle, idle_buttons, idle_commands, idle_items, is_desktop_command, is_end_command, is_idle_kind};
 
 use std::alloc::{AllocError, Global};
 use tv_model::{CommandSpec, Desc, Dialog, Id, Kind, Menu, MenuItem, Node, Sequence};
@@ -85,3 +86,10 @@ pub fn idle_commands(alloc: Global, desc: &Desc) -> Result<Sequence<Id>, AllocEr
     add_dialogs(&mut ids, desc.dialogs.as_slice())?;
     Ok(Sequence::from_vec(ids))
 }
+
+/// A theorem, as a function without a body: in a sound description, what `idle_commands` lists does nothing. The commands of
+/// those items change nothing while no dialog is open, and those of the buttons change nothing of the one that is.
+pub fn idle_commands_do_nothing(_desc: &Desc)
+    requires { IsSound _desc.now }
+    ensures { AreIdle _desc.now }
+{}

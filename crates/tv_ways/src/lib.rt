@@ -23,7 +23,7 @@ pub use answering::answer;
 pub use asking::{DialogWays, Way, all_ways, goals_of, ways_in, ways_to};
 pub use conflict::{Conflict, conflict_against, first_showing};
 pub use cuts::{Cut, Lost, cuts_of};
-pub use idle::idle_commands;
+pub use idle::{idle_commands, idle_commands_do_nothing};
 pub use listing::{put_way, put_ways};
 pub use refusing::{Refusal, unseen_refusal};
 pub use seen::cuts_are_lost;
