@@ -1,6 +1,6 @@
 //! A writer into memory.
 
-ghost use Rattle.std.specs.Prelude.{◌≡◌, ◌==◌, [], IfErr, OnOk, not};
+ghost use Rattle.std.specs.Prelude.{◌≡◌, ◌==◌, [], IfErr, IsOk, OnOk, not};
 ghost use Rattle.tv_io.specs.Writer.{HasRisen};
 
 use crate::writer::{WriteFailed, Writer};
@@ -45,6 +45,7 @@ impl Gathering {
         ensures whole { OnOk result (self.new.failures ≡ 0) }
         ensures count { OnOk result (self.new.failures ≡ self.old.failures) }
         ensures failed { IfErr result (λ _. HasRisen self.old.failures self.new.failures) }
+        ensures only { self.old.failures ≡ 0 → IsOk result }
     {
         if self.failures == 0 {
             return Ok(());

@@ -78,11 +78,15 @@ impl Line {
 
 /// A line takes all that is written, and keeps what there is room for.
 impl fmt::Write for Line {
+    ghost use Rattle.std.specs.Prelude.{IsOk};
     ghost use Rattle.tv_reasons.specs.Reasons.{IsAdded};
 
     ghost write_str_gives = { IsAdded };
 
-    fn write_str(&mut self, text: &str) -> fmt::Result {
+    fn write_str(&mut self, text: &str) -> fmt::Result
+        ensures always { IsOk result }
+        ensures added { IsAdded self.old text.now self.new }
+    {
         self.push_str(text);
         Ok(())
     }
