@@ -1,6 +1,6 @@
 -- Sound descriptions: each fault is a condition on the lists of declarations. A fault names a line of the
 -- canonical text.
-use Rattle.std.specs.Prelude.{◌≡◌, ℕ, Bool, false, not, List, [], ◌∷◌, ◌++◌, map, flat_map, Option, None}
+use Rattle.std.specs.Prelude.{◌≡◌, ℕ, Bool, false, not, List, [], ◌∷◌, ◌++◌, codes, decimal, map, flat_map, Option, None}
 use Rattle.tv_model.specs.declared.node.Node.{Node}
 use Rattle.tv_model.specs.declared.desc.Desc.{Desc}
 use Rattle.tv_model.specs.declared.desc.Menu.{Menu}
@@ -208,3 +208,7 @@ fault_number faults.WideCharacter = 14
 fault_number faults.OutsideLimits = 15
 fault_number faults.BadOpening = 16
 fault_number faults.MenuLetter = 17
+
+-- a fault by its number and line
+abbrev pub fault_text : Fault → List ℕ
+fault_text fault = codes "F" ++ (decimal (fault_number fault.kind) ++ (codes " line " ++ decimal fault.line))
