@@ -133,7 +133,8 @@ pub record LinesByLaws (version : Version) (dialog : Dialog) : Type 0 where
   pub visible : VisibleIsMarker dialog
 
 -- a shortcut is the act of what the certificate names for its letter by the `key` line that holds
--- (`named_by`), or nothing; and the act changes the control that the line names, the focus and the log alone
+-- (`named_by`), or nothing; and the act changes the value of no other control than the line names, nor what the
+-- mouse holds, nor lines that were logged
 pub record LettersByLaws (version : Version) (dialog : Dialog) : Type 0 where
   pub certificate : LinesByLaws version dialog
   pub keys : KeysActAsNamed version dialog

@@ -171,10 +171,16 @@ abbrev pub IsPressOf : Id → LogLine → Type 0
 IsPressOf i (lines.Press button) = button ≡ i
 IsPressOf i _ = Unit {0}
 
--- nothing is changed but the control, the focus and the log; and only a press of a button ends the dialog
+-- the lines that were logged stay, with others behind them
+abbrev pub LogGrows : Modal → Modal → Type 0
+LogGrows m n = (more : List LogLine) × (n.log ≡ m.log ++ more)
+
+-- other controls keep their values, and the mouse holds what it held; and only a press of a button ends the dialog
 pub record IsActOn (d : Dialog) (is_press : Bool) (i : Id) (m : Modal) (n : Modal) : Type 0 where
   pub focus : IsFocusAfter is_press d i m n.focus
   pub values : KeepsOthers d i m n
+  pub held : n.held ≡ m.held
+  pub grows : LogGrows m n
   pub presses : All (IsPressOf i) m.log → All (IsPressOf i) n.log
   pub ended : is_press ≡ false → n.ended ≡ m.ended
 
@@ -279,9 +285,9 @@ RefusedFocusChangesNothing d =
     → is_button marker.node.kind ≡ false → requested d m control.id ≡ Refused
     → (act d letter marker m ≡ m) ⊎ (act d letter marker m ≡ with_line (lines.Invalid m.focus) m)
 
--- the one line that holds names the control, with the item that the letter presses; the act changes that, the
--- focus and the log alone; and it does what its marker is for, unless the focus is an input that it may not
--- leave. A button doesn't ask for the focus
+-- the one line that holds names the control, with the item that the letter presses; the act changes the value of
+-- no other control, nor what the mouse holds, nor lines that were logged; and it does what its marker is for,
+-- unless the focus is an input that it may not leave. A button doesn't ask for the focus
 pub record IsActOfNamed (version : Version) (d : Dialog) (letter : ℕ) (named : Named) (control : Node)
     (m : Modal) : Type 0 where
   pub holds : lines_now version d m.leaves letter ≡ named.line ∷ []

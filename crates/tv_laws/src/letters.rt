@@ -6,7 +6,7 @@ ghost use Rattle.tv_laws.specs.Sound.{IsSoundDialog};
 use tv_model::{Dialog, Version};
 
 /// A theorem, as a function without a body: in a sound dialog a shortcut is the act of what a sound certificate names for its
-/// letter by the line that holds, or nothing. It changes the control that the line names, the focus and the log alone.
+/// letter by the line that holds, or nothing. Other controls keep their values, the mouse what it holds, and the log its lines.
 pub fn shortcuts_act(_version: Version, _dialog: &Dialog)
     requires sound { IsSoundDialog _dialog.now }
     requires lines { HasLines _version _dialog.now }

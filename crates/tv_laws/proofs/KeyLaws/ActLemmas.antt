@@ -1,7 +1,8 @@
--- What an act may change: the control that it is on, the focus and the log.
-use Rattle.std.proofs.Common.{◌≡◌, ◌⊎◌, inl, inr, Bool, true, false, ◌||◌, ◌==◌, ℕ, if◌then◌else◌, ◌∷◌, map, Option, Some, None, refl, sym, ap, subst, ◌∙◌, All}
+-- What an act leaves: the values of other controls, what the mouse holds, and the lines of the log.
+use Rattle.std.proofs.Common.{◌≡◌, ◌⊎◌, inl, inr, Bool, true, false, ◌||◌, ◌==◌, ℕ, if◌then◌else◌, [], ◌∷◌, ◌++◌, map, Option, Some, None, refl, sym, ap, subst, ◌∙◌, All, append_assoc}
 use Rattle.std.specs.Prelude.{nat_le}
 use Rattle.std.proofs.lemmas.Bool.{true≢false}
+use Rattle.std.proofs.lemmas.List.{append-nil}
 use Rattle.std.proofs.lemmas.List.Elements.{All-append, All-cons, All-map, All-push}
 use Rattle.tv_model.specs.declared.node.Id.{Id}
 use Rattle.tv_model.specs.declared.node.Node.{Node}
@@ -30,7 +31,7 @@ use Rattle.tv_machine.specs.Dialog.Rules.{is_enabled, is_visible}
 use Rattle.tv_machine.specs.Dialog.Shortcuts.{act, call_item, called_by, press_item, request_link}
 use Rattle.tv_machine.specs.Safe.{HasValueOf}
 use Rattle.tv_laws.specs.Fit.{IsStanding}
-use Rattle.tv_laws.specs.Letters.{HasLines, IsActOn, IsFocusAfter, IsPressOf, KeepsOthers}
+use Rattle.tv_laws.specs.Letters.{HasLines, IsActOn, LogGrows, IsFocusAfter, IsPressOf, KeepsOthers}
 use Rattle.tv_laws.proofs.KeyLaws.MarkerActs.{MarkersActOnOwners}
 use Rattle.tv_laws.specs.Sound.{IsSoundDialog}
 use Rattle.tv_machine.proofs.RefocusLemmas.{content_at-moved, leaves-moved, moved_content, refocused-keeps, refocused_content}
@@ -111,9 +112,37 @@ module _ (d : Dialog) (sound : IsSoundDialog d) where
   moved_ended m to =
       refocused_ended entered (leaf_at d to) (refocused d left (leaf_at d m.focus) m) ∙ refocused_ended left (leaf_at d m.focus) m
 
+  moved_held : (m : Modal) (to : Id) → (focus_moved d to m).held ≡ m.held
+  moved_held m to =
+      let n = refocused d left (leaf_at d m.focus) m in
+      refocused-keeps (λ o. o.held ≡ n.held) d (λ j c o p. p) entered (leaf_at d to) n refl
+      ∙ refocused-keeps (λ o. o.held ≡ m.held) d (λ j c o p. p) left (leaf_at d m.focus) m refl
+
+  -- ---- the log
+
+  no_line : (m : Modal) → LogGrows m m
+  no_line m = ([], sym (append-nil m.log))
+
+  grows_then : (m n o : Modal) → LogGrows m n → LogGrows n o → LogGrows m o
+  grows_then m n o a b = (a.0 ++ b.0, b.1 ∙ (ap (λ log. log ++ b.0) a.1 ∙ append_assoc m.log a.0 b.0))
+
+  moved_grows : (m : Modal) (to : Id) → LogGrows m (focus_moved d to m)
+  moved_grows m to =
+      let n = refocused d left (leaf_at d m.focus) m in
+      let log : (refocused d entered (leaf_at d to) n).log ≡ m.log = refocused-keeps (λ o. o.log ≡ n.log) d (λ j c o p. p) entered (leaf_at d to) n refl
+      ∙ refocused-keeps (λ o. o.log ≡ m.log) d (λ j c o p. p) left (leaf_at d m.focus) m refl in
+      (lines.Focus to ∷ [], ap (λ l. l ++ lines.Focus to ∷ []) log)
+
   -- nothing happens
   idle_act : (is_press : Bool) (i : Id) (m : Modal) → IsActOn d is_press i m m
-  idle_act is_press i m = record { focus = stays is_press d i m; values = λ k e h other. refl; presses = λ log. log; ended = λ e. refl }
+  idle_act is_press i m = record {
+    focus = stays is_press d i m;
+    values = λ k e h other. refl;
+    held = refl;
+    grows = no_line m;
+    presses = λ log. log;
+    ended = λ e. refl;
+  }
 
   -- ---- requests
 
@@ -122,16 +151,22 @@ module _ (d : Dialog) (sound : IsSoundDialog d) where
     focus : (n.focus ≡ m.focus) ⊎ (n.focus ≡ to)
     leaves : HasLeaves d n
     values : KeepsAll m n
+    held : n.held ≡ m.held
+    grows : LogGrows m n
     log : (i : Id) → All (IsPressOf i) m.log → All (IsPressOf i) n.log
     ended : n.ended ≡ m.ended
 
   asked_by : (to : Id) (r : Request) (m : Modal) → IsStanding d m → IsAsked to m (after_request d to r m)
-  asked_by to Same m s = record { focus = inl refl; leaves = s.leaves; values = λ k e h. refl; log = λ i log. log; ended = refl }
-  asked_by to NotFree m s = record { focus = inl refl; leaves = s.leaves; values = λ k e h. refl; log = λ i log. log; ended = refl }
+  asked_by to Same m s =
+      record { focus = inl refl; leaves = s.leaves; values = λ k e h. refl; held = refl; grows = no_line m; log = λ i log. log; ended = refl }
+  asked_by to NotFree m s =
+      record { focus = inl refl; leaves = s.leaves; values = λ k e h. refl; held = refl; grows = no_line m; log = λ i log. log; ended = refl }
   asked_by to Refused m s = record {
     focus = inl refl;
     leaves = s.leaves;
     values = λ k e h. refl;
+    held = refl;
+    grows = (lines.Invalid m.focus ∷ [], refl);
     log = λ i log. All-push (IsPressOf i) m.log (lines.Invalid m.focus) log tt;
     ended = refl;
   }
@@ -139,6 +174,8 @@ module _ (d : Dialog) (sound : IsSoundDialog d) where
     focus = inr refl;
     leaves = leaves-moved d sound.lawful m to s.leaves;
     values = moved_values m to s;
+    held = moved_held m to;
+    grows = moved_grows m to;
     log = λ i log. moved_log i m to log;
     ended = moved_ended m to;
   }
@@ -148,7 +185,14 @@ module _ (d : Dialog) (sound : IsSoundDialog d) where
 
   -- a request is an act on the control that asks
   asked_act : (i : Id) (m n : Modal) → IsAsked i m n → IsActOn d false i m n
-  asked_act i m n a = record { focus = a.focus; values = λ k e h other. a.values k e h; presses = a.log i; ended = λ e. a.ended }
+  asked_act i m n a = record {
+    focus = a.focus;
+    values = λ k e h other. a.values k e h;
+    held = a.held;
+    grows = a.grows;
+    presses = a.log i;
+    ended = λ e. a.ended;
+  }
 
   pressed_values : (i : Id) (c : Content) (m n : Modal) → IsAsked i m n → KeepsOthers d i m (content_put d i c n)
   pressed_values i c m n a =
@@ -163,6 +207,8 @@ module _ (d : Dialog) (sound : IsSoundDialog d) where
   pressed_act kind i (Some item) m n a = record {
     focus = a.focus;
     values = pressed_values i (cluster_item_pressed kind item (content_at n i)) m n a;
+    held = a.held;
+    grows = a.grows;
     presses = a.log i;
     ended = λ e. a.ended;
   }
@@ -182,6 +228,9 @@ module _ (d : Dialog) (sound : IsSoundDialog d) where
     abbrev IsPressed : Modal → Type 0
     IsPressed n = IsActOn d true i m n
 
+    press_grows : LogGrows m pressed
+    press_grows = (lines.Press i ∷ [], refl)
+
     press_log : All (IsPressOf i) m.log → All (IsPressOf i) pressed.log
     press_log log = All-push (IsPressOf i) m.log (lines.Press i) log refl
 
@@ -189,17 +238,28 @@ module _ (d : Dialog) (sound : IsSoundDialog d) where
     line_pressed line is = record {
       focus = inl refl;
       values = λ k e h other. refl;
+      held = refl;
+      grows = grows_then m pressed (with_line line pressed) press_grows (line ∷ [], refl);
       presses = λ log. All-push (IsPressOf i) pressed.log line (press_log log) is;
       ended = λ e. absurd (true≢false e);
     }
 
     as_pressed : IsPressed pressed
-    as_pressed = record { focus = inl refl; values = λ k e h other. refl; presses = press_log; ended = λ e. absurd (true≢false e) }
+    as_pressed = record {
+      focus = inl refl;
+      values = λ k e h other. refl;
+      held = refl;
+      grows = press_grows;
+      presses = press_log;
+      ended = λ e. absurd (true≢false e);
+    }
 
     ended_pressed : (number : ℕ) → IsPressed (ended d number pressed)
     ended_pressed number = record {
       focus = inl refl;
       values = λ k e h other. refl;
+      held = refl;
+      grows = grows_then m pressed (ended d number pressed) press_grows (lines.End d.node.id (record { 0 = number }) ∷ map field_line (fields_of m.leaves), refl);
       presses = λ log. All-append (IsPressOf i) pressed.log (lines.End d.node.id (record { 0 = number }) ∷ map field_line (fields_of m.leaves)) (press_log log) (field_lines i m number d);
       ended = λ e. absurd (true≢false e);
     }
@@ -215,6 +275,9 @@ module _ (d : Dialog) (sound : IsSoundDialog d) where
     moved_pressed j e = record {
       focus = inr e;
       values = λ k f h other. moved_values (refused j) j (refused_stands j) k f h;
+      held = moved_held (refused j) j;
+      grows = grows_then m (refused j) (focus_moved d j (refused j))
+          (grows_then m pressed (refused j) press_grows (lines.Invalid j ∷ [], refl)) (moved_grows (refused j) j);
       presses = λ log. moved_log i (refused j) j (All-push (IsPressOf i) pressed.log (lines.Invalid j) (press_log log) tt);
       ended = λ f. absurd (true≢false f);
     }
