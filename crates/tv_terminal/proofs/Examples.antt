@@ -77,12 +77,30 @@ beyond = refl
 escape_alone : told (ground plain) (27 ∷ []) ≡ in_mode Escape plain
 escape_alone = refl
 
-half_a_character : told (ground plain) (195 ∷ []) ≡ in_mode (Character 0 3) plain
+half_a_character : told (ground plain) (195 ∷ []) ≡ in_mode (Character 128 0 3) plain
 half_a_character = refl
 
 -- a sequence in two pieces
 in_pieces : told (told (ground plain) (27 ∷ codes "[1")) (codes "2;3H") ≡ told (ground plain) (27 ∷ codes "[12;3H")
 in_pieces = refl
+
+-- a `?` that comes late, a mode beside another, and three numbers of a place aren't said
+late_mark : (told (ground plain) (27 ∷ codes "[1049?h")).display.is_lost ≡ true
+unfolding char_width
+late_mark = refl
+
+two_modes : (told (ground plain) (27 ∷ codes "[?5;1049h")).display.is_lost ≡ true
+two_modes = refl
+
+three_numbers : (told (ground plain) (27 ∷ codes "[1;5;9H")).display.is_lost ≡ true
+three_numbers = refl
+
+-- nor is a character in more bytes than it needs: an A in two, a / in three
+long_letter : (told (ground plain) (193 ∷ 129 ∷ [])).display.is_lost ≡ true
+long_letter = refl
+
+long_slash : (told (ground plain) (224 ∷ 128 ∷ 175 ∷ [])).display.is_lost ≡ true
+long_slash = refl
 
 -- the last column takes a character, and what would come behind it isn't said
 last_column : (told (ground plain) (27 ∷ codes "[1;80Ha")).display.is_lost ≡ false

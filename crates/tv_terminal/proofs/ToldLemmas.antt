@@ -19,8 +19,8 @@ told-++ t (c ∷ a) b = told-++ (byte_told t.mode c t.display) a b
 digit : (k : ℕ) → k < 10 → is_decimal_digit (48 + k) ≡ true
 digit k lt = grind (arith, nat_tests)
 
-told-digit : (k last : ℕ) (is_private : Bool) (before cs : List ℕ) (d : Display) → k < 10 → told (in_mode (Numbers is_private last before) d) ((48 + k) ∷ cs) ≡ told (in_mode (Numbers is_private (last * 10 + k) before) d) cs
-told-digit k last is_private before cs d lt =
+told-digit : (k last : ℕ) (is_first is_private : Bool) (before cs : List ℕ) (d : Display) → k < 10 → told (in_mode (Numbers is_first is_private last before) d) ((48 + k) ∷ cs) ≡ told (in_mode (Numbers false is_private (last * 10 + k) before) d) cs
+told-digit k last is_first is_private before cs d lt =
     let e : 48 + k - 48 ≡ k = omega arith in
     rw (digit k lt, e) refl
 
@@ -34,25 +34,25 @@ two-bytes n ge lt = grind (arith, nat_tests)
 three-bytes : (n : ℕ) → 100 ≤ n → number_bytes n ≡ (48 + n / 100) ∷ (48 + n / 10 % 10) ∷ (48 + n % 10) ∷ []
 three-bytes n ge = grind (arith, nat_tests)
 
-module _ (is_private : Bool) (before : List ℕ) (d : Display) where
+module _ (is_first is_private : Bool) (before : List ℕ) (d : Display) where
   abbrev at : ℕ → Terminal
-  at n = in_mode (Numbers is_private n before) d
+  at n = in_mode (Numbers false is_private n before) d
 
-  told-number : (n : ℕ) → n < 1000 → told (at 0) (number_bytes n) ≡ at n
+  told-number : (n : ℕ) → n < 1000 → told (in_mode (Numbers is_first is_private 0 before) d) (number_bytes n) ≡ at n
   told-number n lt = elim (cases_lt n 10) [
     | inl few ↦
         let e : 0 + n ≡ n = omega arith in
-        rw (small-bytes n few) (told-digit n 0 is_private before [] d few ∙ ap at e)
+        rw (small-bytes n few) (told-digit n 0 is_first is_private before [] d few ∙ ap at e)
     | inr more ↦ elim (cases_lt n 100) [
       | inl few ↦
           let e : (0 + n / 10) * 10 + n % 10 ≡ n = omega arith in
-          rw (two-bytes n more few) (told-digit (n / 10) 0 is_private before ((48 + n % 10) ∷ []) d (omega arith)
-          ∙ told-digit (n % 10) (0 + n / 10) is_private before [] d (omega arith) ∙ ap at e)
+          rw (two-bytes n more few) (told-digit (n / 10) 0 is_first is_private before ((48 + n % 10) ∷ []) d (omega arith)
+          ∙ told-digit (n % 10) (0 + n / 10) false is_private before [] d (omega arith) ∙ ap at e)
       | inr many ↦
           let e : ((0 + n / 100) * 10 + n / 10 % 10) * 10 + n % 10 ≡ n = omega arith in
-          rw (three-bytes n many) (told-digit (n / 100) 0 is_private before ((48 + n / 10 % 10) ∷ (48 + n % 10) ∷ []) d (omega arith)
-          ∙ told-digit (n / 10 % 10) (0 + n / 100) is_private before ((48 + n % 10) ∷ []) d (omega arith)
-          ∙ told-digit (n % 10) ((0 + n / 100) * 10 + n / 10 % 10) is_private before [] d (omega arith) ∙ ap at e)
+          rw (three-bytes n many) (told-digit (n / 100) 0 is_first is_private before ((48 + n / 10 % 10) ∷ (48 + n % 10) ∷ []) d (omega arith)
+          ∙ told-digit (n / 10 % 10) (0 + n / 100) false is_private before ((48 + n % 10) ∷ []) d (omega arith)
+          ∙ told-digit (n % 10) ((0 + n / 100) * 10 + n / 10 % 10) false is_private before [] d (omega arith) ∙ ap at e)
     ]
   ]
 
@@ -62,8 +62,8 @@ told-place column row d across down =
     told-++ (ground d) (27 ∷ 91 ∷ number_bytes (row + 1) ++ 59 ∷ number_bytes (column + 1)) (72 ∷ [])
     ∙ ap (λ (t : Terminal). told t (72 ∷ [])) (
     told-++ (ground d) (27 ∷ 91 ∷ number_bytes (row + 1)) (59 ∷ number_bytes (column + 1))
-    ∙ ap (λ (t : Terminal). told t (59 ∷ number_bytes (column + 1))) (told-number false [] d (row + 1) (omega arith))
-    ∙ told-number false ((row + 1) ∷ []) d (column + 1) (omega arith))
+    ∙ ap (λ (t : Terminal). told t (59 ∷ number_bytes (column + 1))) (told-number true false [] d (row + 1) (omega arith))
+    ∙ told-number false false ((row + 1) ∷ []) d (column + 1) (omega arith))
 
 -- what is so of each number below a bound, by computation
 abbrev all_to : (n : ℕ) → (ℕ → Bool) → Bool
@@ -165,7 +165,7 @@ parameter-few first k f lt = grind (arith, nat_tests)
 
 told-own : (n : ℕ) (d : Display) → n < 1000 → told (ground d) (one_colour_bytes (number_bytes n)) ≡ ground (colour_set n d)
 told-own n d few =
-    told-++ (ground d) (27 ∷ 91 ∷ number_bytes n) (109 ∷ []) ∙ ap (λ (t : Terminal). told t (109 ∷ [])) (told-number false [] d n few)
+    told-++ (ground d) (27 ∷ 91 ∷ number_bytes n) (109 ∷ []) ∙ ap (λ (t : Terminal). told t (109 ∷ [])) (told-number true false [] d n few)
 
 told-index : (layer k : ℕ) (d : Display) → layer < 1000 → k < 1000
     → told (ground d) (one_colour_bytes (number_bytes layer ++ 59 ∷ 53 ∷ 59 ∷ number_bytes k)) ≡ ground (colours_set (layer ∷ 5 ∷ k ∷ []) d)
@@ -173,8 +173,8 @@ told-index layer k d l few =
     told-++ (ground d) (27 ∷ 91 ∷ number_bytes layer ++ 59 ∷ 53 ∷ 59 ∷ number_bytes k) (109 ∷ [])
     ∙ ap (λ (t : Terminal). told t (109 ∷ [])) (
     told-++ (ground d) (27 ∷ 91 ∷ number_bytes layer) (59 ∷ 53 ∷ 59 ∷ number_bytes k)
-    ∙ ap (λ (t : Terminal). told t (59 ∷ 53 ∷ 59 ∷ number_bytes k)) (told-number false [] d layer l)
-    ∙ told-number false (5 ∷ layer ∷ []) d k few)
+    ∙ ap (λ (t : Terminal). told t (59 ∷ 53 ∷ 59 ∷ number_bytes k)) (told-number true false [] d layer l)
+    ∙ told-number false false (5 ∷ layer ∷ []) d k few)
 
 front-set : (colours : Colours) (attr : ℕ) (d : Display) → told (ground d) (one_colour_bytes (front_bytes colours attr)) ≡ ground (record d { front = front_of colours attr })
 front-set Sixteen attr d =
@@ -205,8 +205,8 @@ told-both front back d f b =
     told-++ (ground d) (27 ∷ 91 ∷ number_bytes front ++ 59 ∷ number_bytes back) (109 ∷ [])
     ∙ ap (λ (t : Terminal). told t (109 ∷ [])) (
     told-++ (ground d) (27 ∷ 91 ∷ number_bytes front) (59 ∷ number_bytes back)
-    ∙ ap (λ (t : Terminal). told t (59 ∷ number_bytes back)) (told-number false [] d front f)
-    ∙ told-number false (front ∷ []) d back b)
+    ∙ ap (λ (t : Terminal). told t (59 ∷ number_bytes back)) (told-number true false [] d front f)
+    ∙ told-number false false (front ∷ []) d back b)
 
 -- 38 ; 5 ; front ; 48 ; 5 ; back
 told-indices : (front back : ℕ) (d : Display) → front < 1000 → back < 1000
@@ -215,8 +215,8 @@ told-indices front back d f b =
     told-++ (ground d) (27 ∷ 91 ∷ 51 ∷ 56 ∷ 59 ∷ 53 ∷ 59 ∷ number_bytes front ++ 59 ∷ 52 ∷ 56 ∷ 59 ∷ 53 ∷ 59 ∷ number_bytes back) (109 ∷ [])
     ∙ ap (λ (t : Terminal). told t (109 ∷ [])) (
     told-++ (ground d) (27 ∷ 91 ∷ 51 ∷ 56 ∷ 59 ∷ 53 ∷ 59 ∷ number_bytes front) (59 ∷ 52 ∷ 56 ∷ 59 ∷ 53 ∷ 59 ∷ number_bytes back)
-    ∙ ap (λ (t : Terminal). told t (59 ∷ 52 ∷ 56 ∷ 59 ∷ 53 ∷ 59 ∷ number_bytes back)) (told-number false (5 ∷ 38 ∷ []) d front f)
-    ∙ told-number false (5 ∷ 48 ∷ front ∷ 5 ∷ 38 ∷ []) d back b)
+    ∙ ap (λ (t : Terminal). told t (59 ∷ 52 ∷ 56 ∷ 59 ∷ 53 ∷ 59 ∷ number_bytes back)) (told-number false false (5 ∷ 38 ∷ []) d front f)
+    ∙ told-number false false (5 ∷ 48 ∷ front ∷ 5 ∷ 38 ∷ []) d back b)
 
 told-colours : (colours : Colours) (attr : ℕ) (d : Display) → attr < 256 → told (ground d) (colour_bytes colours attr) ≡ ground (with_colours colours attr d)
 told-colours Sixteen attr d lt =
@@ -238,7 +238,7 @@ told-colours Indexed attr d lt =
 
 -- ---- characters
 
-lead-two : (k : ℕ) (d : Display) → k < 32 → first_told (192 + k) d ≡ in_mode (Character 0 k) d
+lead-two : (k : ℕ) (d : Display) → k < 32 → first_told (192 + k) d ≡ in_mode (Character 128 0 k) d
 lead-two k d lt =
     let a : (192 + k == 27) ≡ false = grind (arith, nat_tests) in
     let b : nat_lt (192 + k) 128 ≡ false = grind (arith, nat_tests) in
@@ -247,7 +247,7 @@ lead-two k d lt =
     let f : 192 + k - 192 ≡ k = omega arith in
     rw (a, b, c, e, f) refl
 
-lead-three : (k : ℕ) (d : Display) → k < 16 → first_told (224 + k) d ≡ in_mode (Character 1 k) d
+lead-three : (k : ℕ) (d : Display) → k < 16 → first_told (224 + k) d ≡ in_mode (Character 2048 1 k) d
 lead-three k d lt =
     let a : (224 + k == 27) ≡ false = grind (arith, nat_tests) in
     let b : nat_lt (224 + k) 128 ≡ false = grind (arith, nat_tests) in
@@ -257,7 +257,7 @@ lead-three k d lt =
     let f : 224 + k - 224 ≡ k = omega arith in
     rw (a, b, c, e, g, f) refl
 
-lead-four : (k : ℕ) (d : Display) → k < 8 → first_told (240 + k) d ≡ in_mode (Character 2 k) d
+lead-four : (k : ℕ) (d : Display) → k < 8 → first_told (240 + k) d ≡ in_mode (Character 65536 2 k) d
 lead-four k d lt =
     let a : (240 + k == 27) ≡ false = grind (arith, nat_tests) in
     let b : nat_lt (240 + k) 128 ≡ false = grind (arith, nat_tests) in
@@ -268,7 +268,7 @@ lead-four k d lt =
     let f : 240 + k - 240 ≡ k = omega arith in
     rw (a, b, c, e, g, h, f) refl
 
-module _ (k part : ℕ) (d : Display) (lt : k < 64) where
+module _ (k least part : ℕ) (d : Display) (lt : k < 64) where
   from : nat_le 128 (128 + k) ≡ true
   from = grind (arith, nat_tests)
 
@@ -278,10 +278,12 @@ module _ (k part : ℕ) (d : Display) (lt : k < 64) where
   same : 128 + k - 128 ≡ k
   same = omega arith
 
-  told-last : told (in_mode (Character 0 part) d) ((128 + k) ∷ []) ≡ ground (put (part * 64 + k) d)
-  told-last = rw (from, to, same) refl
+  told-last : least ≤ part * 64 + k → told (in_mode (Character least 0 part) d) ((128 + k) ∷ []) ≡ ground (put (part * 64 + k) d)
+  told-last ge =
+      let long : nat_le least (part * 64 + k) ≡ true = grind (arith, nat_tests, ge) in
+      rw (from, to, same, long) refl
 
-  told-next : (more : ℕ) (cs : List ℕ) → told (in_mode (Character (more + 1) part) d) ((128 + k) ∷ cs) ≡ told (in_mode (Character more (part * 64 + k)) d) cs
+  told-next : (more : ℕ) (cs : List ℕ) → told (in_mode (Character least (more + 1) part) d) ((128 + k) ∷ cs) ≡ told (in_mode (Character least more (part * 64 + k)) d) cs
   told-next more cs =
       let some : (more + 1 == 0) ≡ false = grind (arith, nat_tests) in
       let less : more + 1 - 1 ≡ more = omega arith in
@@ -327,7 +329,7 @@ told-two c d ge lt =
     let e : c / 64 * 64 + c % 64 ≡ c = omega arith in
     ap (told (ground d)) (encode-two c ge lt)
     ∙ ap (λ (t : Terminal). told t ((128 + c % 64) ∷ [])) (lead-two (c / 64) d (omega arith))
-    ∙ told-last (c % 64) (c / 64) d (omega arith)
+    ∙ told-last (c % 64) 128 (c / 64) d (omega arith) (omega (arith, e, ge))
     ∙ ap (λ (n : ℕ). ground (put n d)) e
 
 told-three : (c : ℕ) (d : Display) → 2048 ≤ c → c < 65536 → told (ground d) (encode_utf8 c) ≡ ground (put c d)
@@ -335,8 +337,8 @@ told-three c d ge lt =
     let e : (c / 4096 * 64 + c / 64 % 64) * 64 + c % 64 ≡ c = omega arith in
     ap (told (ground d)) (encode-three c ge lt)
     ∙ ap (λ (t : Terminal). told t ((128 + c / 64 % 64) ∷ (128 + c % 64) ∷ [])) (lead-three (c / 4096) d (omega arith))
-    ∙ told-next (c / 64 % 64) (c / 4096) d (omega arith) 0 ((128 + c % 64) ∷ [])
-    ∙ told-last (c % 64) (c / 4096 * 64 + c / 64 % 64) d (omega arith)
+    ∙ told-next (c / 64 % 64) 2048 (c / 4096) d (omega arith) 0 ((128 + c % 64) ∷ [])
+    ∙ told-last (c % 64) 2048 (c / 4096 * 64 + c / 64 % 64) d (omega arith) (omega (arith, e, ge))
     ∙ ap (λ (n : ℕ). ground (put n d)) e
 
 told-four : (c : ℕ) (d : Display) → 65536 ≤ c → c < 1114112 → told (ground d) (encode_utf8 c) ≡ ground (put c d)
@@ -344,9 +346,9 @@ told-four c d ge lt =
     let e : ((c / 262144 * 64 + c / 4096 % 64) * 64 + c / 64 % 64) * 64 + c % 64 ≡ c = omega arith in
     ap (told (ground d)) (encode-four c ge)
     ∙ ap (λ (t : Terminal). told t ((128 + c / 4096 % 64) ∷ (128 + c / 64 % 64) ∷ (128 + c % 64) ∷ [])) (lead-four (c / 262144) d (omega arith))
-    ∙ told-next (c / 4096 % 64) (c / 262144) d (omega arith) 1 ((128 + c / 64 % 64) ∷ (128 + c % 64) ∷ [])
-    ∙ told-next (c / 64 % 64) (c / 262144 * 64 + c / 4096 % 64) d (omega arith) 0 ((128 + c % 64) ∷ [])
-    ∙ told-last (c % 64) ((c / 262144 * 64 + c / 4096 % 64) * 64 + c / 64 % 64) d (omega arith)
+    ∙ told-next (c / 4096 % 64) 65536 (c / 262144) d (omega arith) 1 ((128 + c / 64 % 64) ∷ (128 + c % 64) ∷ [])
+    ∙ told-next (c / 64 % 64) 65536 (c / 262144 * 64 + c / 4096 % 64) d (omega arith) 0 ((128 + c % 64) ∷ [])
+    ∙ told-last (c % 64) 65536 ((c / 262144 * 64 + c / 4096 % 64) * 64 + c / 64 % 64) d (omega arith) (omega (arith, e, ge))
     ∙ ap (λ (n : ℕ). ground (put n d)) e
 
 pub told-char : (c : ℕ) (d : Display) → c < 1114112 → IsPlain c → told (ground d) (encode_utf8 c) ≡ ground (put c d)
@@ -401,7 +403,7 @@ told-going-anew column row d across down small few =
 -- so many columns to the right
 told-right : (n : ℕ) (d : Display) → n < 1000 → told (ground d) (right_bytes n) ≡ ground (moved_right n d)
 told-right n d few =
-    told-++ (ground d) (27 ∷ 91 ∷ number_bytes n) (67 ∷ []) ∙ ap (λ (t : Terminal). told t (67 ∷ [])) (told-number false [] d n few)
+    told-++ (ground d) (27 ∷ 91 ∷ number_bytes n) (67 ∷ []) ∙ ap (λ (t : Terminal). told t (67 ∷ [])) (told-number true false [] d n few)
 
 told-going-right : (column row : ℕ) (d : Display) → d.column < column → d.row ≡ row → column < d.columns → column < 999 → told (ground d) (right_bytes (column - d.column)) ≡ ground (moved column row d)
 told-going-right column row d less same across small =

@@ -152,13 +152,14 @@ rung d = record d { bells = d.bells + 1 }
 
 -- ---- sequences
 
--- between sequences; behind ESC; behind ESC [ with the numbers so far, and whether a `?` stood before them;
--- or in a character, of which so many more bytes are to come after the next
+-- between sequences; behind ESC; behind ESC [ with the numbers so far, whether nothing stands there yet, and
+-- whether a `?` did so first; or in a character, of which so many more bytes are to come after the next, and
+-- which would have had fewer bytes if it were below the least
 pub data Mode : Type 0 where
   Ground : Mode
   Escape : Mode
-  Numbers : (is_private : Bool) (last : ℕ) (before : List ℕ) → Mode
-  Character : (more part : ℕ) → Mode
+  Numbers : (is_first is_private : Bool) (last : ℕ) (before : List ℕ) → Mode
+  Character : (least more part : ℕ) → Mode
 
 pub record Terminal : Type 0 where
   pub mode : Mode
@@ -170,22 +171,24 @@ in_mode m d = record { mode = m; display = d }
 abbrev pub ground : Display → Terminal
 ground d = in_mode Ground d
 
--- the last byte of a sequence: H (72) places the cursor, C (67) moves it right, m (109) sets colours, J (74)
--- clears the screen and K (75) the rest of a row, and with a `?` before the number h (104) and l (108) switch a
--- mode
+-- the last byte of a sequence: H (72) behind two numbers places the cursor, C (67) moves it right, m (109) sets
+-- colours by any numbers, J (74) clears the screen and K (75) the rest of a row, and with a `?` before the only
+-- number h (104) and l (108) switch a mode
 abbrev pub after_sequence : ℕ → Bool → ℕ → List ℕ → Display → Display
-after_sequence c true last before d =
+after_sequence c true last [] d =
     if c == 104 then switched last true d else if c == 108 then switched last false d else lost d
+after_sequence c true last before d = lost d
 after_sequence c false last [] d =
     if c == 109 then colour_set last d
     else if c == 67 then moved_right last d
     else if (c == 74) && (last == 2) then cleared d
     else if (c == 75) && (last == 0) then row_cleared d
     else lost d
-after_sequence c false last (first ∷ before) d =
-    if c == 109 then colours_set (reverse (last ∷ first ∷ before)) d
+after_sequence c false last (first ∷ []) d =
+    if c == 109 then colours_set (first ∷ last ∷ []) d
     else if c == 72 then cursor_placed first last d
     else lost d
+after_sequence c false last before d = if c == 109 then colours_set (reverse (last ∷ before)) d else lost d
 
 abbrev pub is_decimal_digit : ℕ → Bool
 is_decimal_digit c = nat_le 48 c && nat_le c 57
@@ -196,24 +199,28 @@ first_told c d =
     if c == 27 then in_mode Escape d
     else if nat_lt c 128 then ground (if c == 7 then rung d else put c d)
     else if nat_lt c 192 then ground (lost d)
-    else if nat_lt c 224 then in_mode (Character 0 (c - 192)) d
-    else if nat_lt c 240 then in_mode (Character 1 (c - 224)) d
-    else if nat_lt c 248 then in_mode (Character 2 (c - 240)) d
+    else if nat_lt c 224 then in_mode (Character 128 0 (c - 192)) d
+    else if nat_lt c 240 then in_mode (Character 2048 1 (c - 224)) d
+    else if nat_lt c 248 then in_mode (Character 65536 2 (c - 240)) d
     else ground (lost d)
+
+-- a character that had as few bytes as it needs
+abbrev pub put_shortest : (least ch : ℕ) → Display → Display
+put_shortest least ch d = if nat_le least ch then put ch d else lost d
 
 abbrev pub byte_told : Mode → ℕ → Display → Terminal
 byte_told Ground c d = first_told c d
-byte_told Escape c d = if c == 91 then in_mode (Numbers false 0 []) d else ground (lost d)
-byte_told (Numbers is_private last before) c d =
-    if is_decimal_digit c then in_mode (Numbers is_private (last * 10 + (c - 48)) before) d
-    else if c == 59 then in_mode (Numbers is_private 0 (last ∷ before)) d
-    else if c == 63 then in_mode (Numbers true last before) d
+byte_told Escape c d = if c == 91 then in_mode (Numbers true false 0 []) d else ground (lost d)
+byte_told (Numbers is_first is_private last before) c d =
+    if is_decimal_digit c then in_mode (Numbers false is_private (last * 10 + (c - 48)) before) d
+    else if c == 59 then in_mode (Numbers false is_private 0 (last ∷ before)) d
+    else if is_first && (c == 63) then in_mode (Numbers false true last before) d
     else ground (after_sequence c is_private last before d)
-byte_told (Character more part) c d =
+byte_told (Character least more part) c d =
     if nat_le 128 c && nat_lt c 192
     then (if more == 0
-    then ground (put (part * 64 + (c - 128)) d)
-    else in_mode (Character (more - 1) (part * 64 + (c - 128))) d)
+    then ground (put_shortest least (part * 64 + (c - 128)) d)
+    else in_mode (Character least (more - 1) (part * 64 + (c - 128))) d)
     else ground (lost d)
 
 -- what a terminal is after some bytes

@@ -10,7 +10,7 @@ ghost use Rattle.tv_terminal.specs.Written.{cursor_on, end_bytes, is_seen, seen}
 ghost use Rattle.tv_terminal.specs.Terminal.{Covered, Display, ground, told};
 ghost use Rattle.tv_terminal.specs.Notes.{Notes};
 ghost use Rattle.tv_terminal.specs.Sameness.{IsSaidSame};
-ghost use Rattle.tv_terminal.specs.Writing.{BeginsScreen, Draws, Paints, restored};
+ghost use Rattle.tv_terminal.specs.Writing.{BeginsScreen, Draws, IsRight, Paints, restored};
 
 use crate::action::Size;
 use crate::colour::Colours;
@@ -53,6 +53,7 @@ impl Painter {
         ensures unknown { IfOk result (λ painter. painter.is_known ≡ false) }
         ensures colours { IfOk result (λ painter. painter.colours ≡ colours) }
         ensures whole { IfOk result (λ painter. (painter.window.columns ≡ width) × (painter.window.rows ≡ height)) }
+        ensures right { IfOk result (λ painter. (d : Display) → IsRight painter d) }
         ensures bad { IsErrOf result ScreenFault.BadSize ↔ (IsScreenSize width height → ⊥) }
     {
         match Screen::new(alloc, width, height) {
@@ -164,7 +165,9 @@ impl Painter {
         ensures told { (d : Display) (c : Covered) → d.covered ≡ Some c → told (ground d) end_bytes ≡ ground (restored c d) }
         ensures shown { self.new.shown ≡ self.old.shown }
         ensures unknown { self.new.is_known ≡ false }
+        ensures right { (d : Display) → IsRight self.new d }
         ensures colours { self.new.colours ≡ self.old.colours }
+        ensures window { self.new.window ≡ self.old.window }
     {
         self.forget();
         pen.put(
