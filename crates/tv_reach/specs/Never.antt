@@ -110,18 +110,26 @@ pub record Blocks (d : Dialog) (masks : List Mask) (i : Id) (leaf : PlacedNode) 
 
 -- ---- reasons
 
--- why no events reach the goal, by these masks
+-- why no events reach the goal in a dialog, by these masks. Against an end a reason holds only where those before
+-- it don't: what gives the command is never shown only where something gives it, and an input blocks an end only
+-- where the command may be given
+abbrev pub IsReasonIn : Desc → Dialog → List Mask → Goal → Reason → Type 0
+IsReasonIn d dialog masks (goals.Ends c) reasons.NoGiver = (c.0 ≢ cm_cancel) × HasNoGiver d dialog c.0
+IsReasonIn d dialog masks (goals.Ends c) reasons.NotGiven =
+    (c.0 ≢ cm_cancel) × IsNeverGiven d dialog masks c.0 × (HasNoGiver d dialog c.0 → ⊥)
+IsReasonIn d dialog masks (goals.Ends c) (reasons.Blocked i) =
+    (c.0 ≢ cm_cancel) × Any (Blocks dialog masks i) (leaf_list dialog.views)
+    × (IsNeverGiven d dialog masks c.0 → ⊥)
+IsReasonIn d dialog masks (goals.Focuses i) reasons.NotFree =
+    All (λ leaf. leaf.node.id ≡ i → IsNeverFree dialog masks leaf) (leaf_list dialog.views)
+IsReasonIn d dialog masks (goals.Shows i) reasons.NotShown =
+    All (λ leaf. leaf.node.id ≡ i → IsNeverShown dialog masks leaf) (leaf_list dialog.views)
+IsReasonIn d dialog masks goal why = ⊥
+
+-- the same, or nothing opens the dialog, which is told before any other reason
 abbrev pub IsReason : Desc → Dialog → List Mask → Goal → Reason → Type 0
 IsReason d dialog masks goal reasons.NotOpened = IsNeverOpened d dialog
-IsReason d dialog masks (goals.Ends c) reasons.NoGiver = (c.0 ≢ cm_cancel) × HasNoGiver d dialog c.0
-IsReason d dialog masks (goals.Ends c) reasons.NotGiven = (c.0 ≢ cm_cancel) × IsNeverGiven d dialog masks c.0
-IsReason d dialog masks (goals.Ends c) (reasons.Blocked i) =
-    (c.0 ≢ cm_cancel) × Any (Blocks dialog masks i) (leaf_list dialog.views)
-IsReason d dialog masks (goals.Focuses i) reasons.NotFree =
-    All (λ leaf. leaf.node.id ≡ i → IsNeverFree dialog masks leaf) (leaf_list dialog.views)
-IsReason d dialog masks (goals.Shows i) reasons.NotShown =
-    All (λ leaf. leaf.node.id ≡ i → IsNeverShown dialog masks leaf) (leaf_list dialog.views)
-IsReason d dialog masks goal why = ⊥
+IsReason d dialog masks goal why = (IsNeverOpened d dialog → ⊥) × IsReasonIn d dialog masks goal why
 
 -- by these masks there is no reason against the goal
 abbrev pub LacksReason : Desc → Dialog → List Mask → Goal → Type 0

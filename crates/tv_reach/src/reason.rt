@@ -3,7 +3,7 @@
 ghost use Rattle.std.specs.Prelude.{◌≡◌, ◌≤◌, ◌↔◌, length, IfNone, IfOk, IfSome, IsTrue};
 ghost use Rattle.std.specs.List.{list_any};
 ghost use Rattle.tv_reach.specs.Found.{IsCase};
-ghost use Rattle.tv_reach.specs.Never.{IsNeverOpened, IsReason, LacksReason, opens_by, starts_with};
+ghost use Rattle.tv_reach.specs.Never.{IsNeverOpened, IsReason, IsReasonIn, LacksReason, opens_by, starts_with};
 ghost use Rattle.tv_reach.specs.declared.goal.Goal.TheVariants.{Ends};
 
 use crate::answer::Reason;
@@ -71,7 +71,7 @@ fn is_never_opened(desc: &Desc, dialog: &Dialog) -> bool
 fn end_reason(alloc: Global, case: &Case, command: Command) -> Result<Option<Reason>, AllocError>
     requires { IsCase case.now }
     ensures found { IfOk result (λ found. IfSome found (λ why.
-        IsReason case.now.desc.now case.now.dialog.now case.now.masks.now (Ends command) why)) }
+        IsReasonIn case.now.desc.now case.now.dialog.now case.now.masks.now (Ends command) why)) }
     ensures exact { IfOk result (λ found. IfNone found ((IsNeverOpened case.now.desc.now case.now.dialog.now → ⊥)
         → LacksReason case.now.desc.now case.now.dialog.now case.now.masks.now (Ends command))) }
 {
@@ -95,7 +95,7 @@ fn end_reason(alloc: Global, case: &Case, command: Command) -> Result<Option<Rea
 fn reason_in(alloc: Global, case: &Case, goal: Goal) -> Result<Option<Reason>, AllocError>
     requires { IsCase case.now }
     ensures found { IfOk result (λ found. IfSome found (λ why.
-        IsReason case.now.desc.now case.now.dialog.now case.now.masks.now goal why)) }
+        IsReasonIn case.now.desc.now case.now.dialog.now case.now.masks.now goal why)) }
     ensures exact { IfOk result (λ found. IfNone found ((IsNeverOpened case.now.desc.now case.now.dialog.now → ⊥)
         → LacksReason case.now.desc.now case.now.dialog.now case.now.masks.now goal)) }
 {
@@ -108,8 +108,8 @@ fn reason_in(alloc: Global, case: &Case, goal: Goal) -> Result<Option<Reason>, A
     }
 }
 
-/// Finds a reason why no events reach the goal in the dialog, by these masks, which have to be closed for it to hold. Of a dialog with
-/// more than 64 rules it finds only that nothing opens it.
+/// Finds the first reason why no events reach the goal in the dialog, by these masks, which have to be closed for it to hold. Of a
+/// dialog with more than 64 rules it finds only that nothing opens it.
 pub fn reason_against(
     alloc: Global,
     desc: &Desc,
