@@ -8,7 +8,7 @@ ghost use Rattle.tv_machine.specs.Session.Dragging.{is_grip, is_grip_of, placed}
 ghost use Rattle.tv_machine.specs.State.{OpenDialog, State};
 ghost use Rattle.tv_model.specs.declared.desc.Desc.{Desc as Declared};
 ghost use Rattle.tv_dialogs.specs.Damage.{Keeps, OpenAlike};
-ghost use Rattle.tv_dialogs.specs.Dialogs.{AreDialogs, AreOfRun};
+ghost use Rattle.tv_dialogs.specs.Dialogs.{AreDialogs, AreOfRun, log_of_last};
 ghost use Rattle.tv_dialogs.specs.Handed.{IsPointGiven};
 ghost use Rattle.tv_dialogs.specs.Placing.{bounds_of_open};
 
@@ -76,6 +76,7 @@ impl<V: View> DialogsOf<V> {
             → damage.new ≡ damage.old }
         ensures unopened { (d : Declared) (s : State) → AreDialogs V.meaning d s self.old → s.dialog ≡ None
             → AreDialogs V.meaning d s self.new × (damage.new ≡ damage.old) }
+        ensures log { log_of_last self.new ≡ log_of_last self.old }
         ensures kept { Keeps damage.old damage.new }
         ensures room { vec_capacity self.new.kept ≡ vec_capacity self.old.kept }
     {

@@ -5,7 +5,7 @@ ghost use Rattle.tv_machine.specs.Session.Laid.{laid_in_dialog};
 ghost use Rattle.tv_machine.specs.State.{OpenDialog, State};
 ghost use Rattle.tv_model.specs.declared.desc.Desc.{Desc as Declared};
 ghost use Rattle.tv_dialogs.specs.Damage.{Keeps, OpenAlike};
-ghost use Rattle.tv_dialogs.specs.Dialogs.{AreDialogs, AreOfRun};
+ghost use Rattle.tv_dialogs.specs.Dialogs.{AreDialogs, AreOfRun, log_of_last};
 
 use crate::dialogs::DialogsOf;
 use tv_cells::{Damage, Screen};
@@ -21,6 +21,7 @@ impl<V: View> DialogsOf<V> {
             → OpenAlike d damage.new s (laid_in_dialog o sheet s) }
         ensures unopened { (d : Declared) (s : State) → AreDialogs V.meaning d s self.old → s.dialog ≡ None
             → AreDialogs V.meaning d s self.new × (damage.new ≡ damage.old) }
+        ensures log { log_of_last self.new ≡ log_of_last self.old }
         ensures kept { Keeps damage.old damage.new }
         ensures room { vec_capacity self.new.kept ≡ vec_capacity self.old.kept }
     {

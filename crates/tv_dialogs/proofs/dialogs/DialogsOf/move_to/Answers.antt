@@ -1,10 +1,11 @@
-use Rattle.std.proofs.Common.{◌≡◌, ◌⊎◌, ◌∙◌, ap, refl, slice_get, slice_set, subst}
+use Rattle.std.proofs.Common.{◌≡◌, ◌⊎◌, ◌∙◌, ap, length, refl, slice_get, slice_set, subst}
 use Rattle.std.proofs.lemmas.Bool.{false≢true}
-use Rattle.std.proofs.lemmas.Option.{slice_get_within}
+use Rattle.std.proofs.lemmas.Option.{slice_get_read, slice_get_within}
 use Rattle.tv_cells.specs.Damage.{AddsAll}
 use Rattle.tv_dialog.specs.Bounds.{moved_dialog_rects}
 use Rattle.tv_dialogs.specs.declared.kept.Kept.{Kept}
 use Rattle.tv_dialogs.proofs.DamageLemmas.{moved-alike}
+use Rattle.tv_dialogs.proofs.LineLemmas.{same-lines}
 use Rattle.tv_dialogs.proofs.MovedLemmas.{moved-dialogs, moved_kept}
 use Rattle.tv_dialogs.proofs.PlaceLemmas.{get-set-same}
 use Rattle.tv_dialogs.proofs.PlacedLemmas.{place-kept, place-of, read-kept}
@@ -43,6 +44,15 @@ pub returns-in-Some-get_mut-clause-unmoved : goal.returns-in-Some-get_mut-clause
 returns-in-Some-get_mut-clause-unmoved g c d s o are is stays =
     let same = read-kept g.V.View.meaning d s c.args.self.now are c.in-Some.place c.in-Some.is o is c.in-Some-get_mut.kept.now c.in-Some-get_mut.ensures.value in
     c.move_to.ensures.unmoved (ap (λ k. k.dialog.corner) same ∙ (are.at o is).corner ∙ stays)
+
+pub returns-in-Some-get_mut-clause-log : goal.returns-in-Some-get_mut-clause-log
+returns-in-Some-get_mut-clause-log g c =
+    let old = c.args.self.now in
+    let items = old.kept.items in
+    let kept = c.in-Some-get_mut.kept.now in
+    let read = c.in-Some-get_mut.ensures in
+    let found = slice_get_read items (length items) c.in-Some.place kept refl read.item.3.0 read.value in
+    same-lines items c.in-Some.place kept (record { dialog = c.move_to.new.self; values = kept.values }) found (ap (λ x. x.log.items) c.move_to.ensures.moved) old.last
 
 -- a dialog is kept at the place of the open one
 pub returns-in_default-get_mut-clause-dialogs : goal.returns-in_default-get_mut-clause-dialogs
