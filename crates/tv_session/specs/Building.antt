@@ -1,5 +1,5 @@
 -- What stands while views are put together, and what each step makes of it.
-use Rattle.std.specs.Prelude.{◌≡◌, ◌≢◌, ◌⊎◌, ◌≤◌, ◌-◌, List, [], ◌∷◌, ◌++◌, length, map, take, Some}
+use Rattle.std.specs.Prelude.{◌≡◌, ◌≢◌, ◌⊎◌, ◌≤◌, ◌-◌, List, [], ◌∷◌, ◌++◌, length, map, take, Some, None, IsTrue}
 use Rattle.tv_group.specs.Opened.{members_level}
 use Rattle.tv_group.specs.declared.group.GroupOf.{GroupOf}
 use Rattle.tv_group.specs.declared.group.MemberOf.{MemberOf}
@@ -12,7 +12,7 @@ use Rattle.tv_model.specs.Description.Rectangles.{corner_of}
 use Rattle.tv_window.specs.Head.{declared_window_head}
 use Rattle.tv_window.specs.Window.{body_of, head_of}
 use Rattle.tv_window.specs.declared.window.WindowOf.{WindowOf}
-use Rattle.tv_session.specs.Groups.{IsGroupOf}
+use Rattle.tv_session.specs.Groups.{IsGroupOf, is_group}
 use Rattle.tv_session.specs.declared.begun.Begun.{Begun}
 use Rattle.tv_session.specs.declared.building.Building.{Building}
 
@@ -37,8 +37,9 @@ pub record KeepsViews {V : Type 0} (old new : Building V) : Type 0 where
 
 -- ---- beginning and adding
 
--- a node begins inside what was begun before, and nothing stands in it
+-- the node of a group begins inside what was begun before, and nothing stands in it
 pub record BeginsNode {V : Type 0} (node : Node) (old new : List (Begun V)) : Type 0 where
+  pub group : IsTrue (is_group node.kind)
   pub begun : Begun V
   pub node_is : begun.node.now ≡ node
   pub empty : begun.members.items ≡ []
@@ -65,13 +66,15 @@ pub record AreSameGroups {V : Type 0} (old new : List (Begun V)) : Type 0 where
 abbrev pub but_innermost : {V : Type 0} → List (Begun V) → List (Begun V)
 but_innermost begun = take (length begun - 1) begun
 
--- a window of the node stands where that is declared, the last of the windows, round this body
+-- a window of the node stands where that is declared, the last of the windows, round this body, and no sheet
+-- lies in it
 pub record StandsWindow {V : Type 0} (node : Node) (body : GroupOf V)
     (old new : List (WindowOf V)) : Type 0 where
   pub window : WindowOf V
   pub head : Some (head_of window) ≡ declared_window_head node
   pub corner : window.corner ≡ corner_of node
   pub body_is : body_of window ≡ body
+  pub bare : window.sheet ≡ None
   pub last : new ≡ old ++ window ∷ []
 
 -- what a node's end makes of the group in it, by its kind: a pane stands in what is around it, a window or a

@@ -1,7 +1,7 @@
 -- Where groups stand, and what they are made of.
-use Rattle.std.specs.Prelude.{◌≡◌, ℕ, Bool, ◌||◌, pos, List, map, None}
+use Rattle.std.specs.Prelude.{◌≡◌, ◌+◌, ℕ, Bool, ◌||◌, pos, List, map, None}
 use Rattle.tv_cells.specs.declared.rect.Rect.{Rect}
-use Rattle.tv_group.specs.Opened.{group_bounds, joined, opened, opened_member}
+use Rattle.tv_group.specs.Opened.{group_bounds, joined, level_of, members_level, opened, opened_member}
 use Rattle.tv_group.specs.Outline.{has_body, joined_outline, members_outline}
 use Rattle.tv_group.specs.declared.group.GroupOf.{GroupOf}
 use Rattle.tv_group.specs.declared.group.MemberOf.{MemberOf}
@@ -29,3 +29,5 @@ pub record IsGroupOf {V : Type 0} (look : V → Leaf) (node : Node) (members : L
       ≡ map (inside (area_of node node.kind)) (joined None 0 (map (opened_member look) members))
   -- panes without leaves too
   pub outline : (depth : ℕ) → members_outline look group depth ≡ joined_outline look members depth
+  -- one above the highest among the members
+  pub level : level_of group ≡ members_level members + 1

@@ -1,6 +1,6 @@
 //! Where groups stand.
 
-ghost use Rattle.std.specs.Prelude.{◌≡◌, false, IfOk, IfErr};
+ghost use Rattle.std.specs.Prelude.{◌≡◌, false, IfOk, IfErr, IsTrue, OnOk};
 ghost use Rattle.tv_session.specs.Groups.{area_of, is_group};
 ghost use Rattle.tv_session.specs.declared.build_fault.BuildFault.TheVariants.{WrongPlan};
 ghost use Rattle.tv_model.specs.Description.Rectangles.{IsSmallRect, rect};
@@ -32,6 +32,7 @@ fn area_at(x: &i32, y: &i32, w: &i32, h: &i32) -> Area
 pub(crate) fn area_of(node: &Node) -> Result<Area, BuildFault>
     requires { IsLawfulNode node.now }
     ensures is { IfOk result (λ area. area.rect ≡ area_of node.now node.now.kind) }
+    ensures group { OnOk result (IsTrue (is_group node.now.kind)) }
     ensures refused { IfErr result (λ fault. (fault ≡ WrongPlan) × (is_group node.now.kind ≡ false)) }
 {
     match &node.kind {

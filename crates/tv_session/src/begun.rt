@@ -1,7 +1,7 @@
 //! Groups that were begun and haven't ended.
 
 ghost use Rattle.std.specs.Option.{ForSome};
-ghost use Rattle.std.specs.Prelude.{◌≡◌, ◌≤◌, ◌++◌, ◌∷◌, [], false, IfErr, IfOk, OnOk};
+ghost use Rattle.std.specs.Prelude.{◌≡◌, ◌≤◌, ◌++◌, ◌∷◌, [], false, IfErr, IfOk, IsTrue, OnOk};
 ghost use Rattle.tv_session.specs.Groups.{IsGroupOf, area_of, is_group};
 ghost use Rattle.tv_session.specs.declared.build_fault.BuildFault.TheVariants.{NoMemory, WrongPlan};
 ghost use Rattle.tv_faces.specs.Corners.{IsCorner};
@@ -34,6 +34,7 @@ impl<'a, V: View> Begun<'a, V> {
         requires { IsLawfulNode node.now }
         ensures node { IfOk result (λ begun. begun.node.now ≡ node.now) }
         ensures members { IfOk result (λ begun. begun.members.items ≡ members.items) }
+        ensures group { OnOk result (IsTrue (is_group node.now.kind)) }
         ensures refused { IfErr result (λ fault. (fault ≡ WrongPlan) × (is_group node.now.kind ≡ false)) }
     {
         let area = area_of(node)?;
