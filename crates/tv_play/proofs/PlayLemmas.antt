@@ -17,7 +17,7 @@ use Rattle.tv_model.specs.Log.LogText.{log_text}
 use Rattle.tv_script.specs.Tapes.{script_text}
 use Rattle.tv_play.specs.Ends.{events_in, is_finished, is_leaving, script_of}
 use Rattle.tv_play.specs.Pieces.{Comes, ComesNot, HasCome, Heard, FitsRoom, Loses, symbols_in}
-use Rattle.tv_play.specs.Playing.{ComesOf, IsTakenOrCut, IsWrittenOrCut, PartsBy, Plays, PlaysTo, Ports, told_with}
+use Rattle.tv_play.specs.Playing.{ComesOf, IsShownBefore, IsShownOut, IsTakenOrCut, IsWrittenOrCut, PartsBy, Plays, PlaysTo, Ports, told_with}
 use Rattle.tv_play.specs.Steps.{CameTo, HasPlayedOut, HasRun, IsAtEnd, IsEndedBy, IsHeard, IsPlaying, IsTaped, HasBeenShown, Outside, TurnsTo, or_end, outcome_of, outside}
 use Rattle.tv_play.specs.declared.parting.Parting.{Parting}
 use Rattle.tv_play.specs.declared.parting.Parting.TheVariants as partings
@@ -225,7 +225,7 @@ run-unheard s symbols input mid left from now Left come failed none clear shown 
   shown = p.shown;
   left = p.performs.left;
   taped = p.taped;
-  came = ((mid, come, failed), refl, p.performs.written, p.going, p.whole, none, clear, shown);
+  came = ((mid, come, failed), p.goes, refl, p.performs.written, p.going, p.whole, none, clear, shown);
 }
 
 -- ---- the end
@@ -246,19 +246,22 @@ taken-cut : (from last : Seen) (text : List ℕ) (torn : Bool) → torn ≡ true
 taken-cut from last text true e put = put
 taken-cut from last text false e put = absurd cc
 
-module _ (s : Session) (symbols : List Symbol) (actions rest : List Action) (input left : Heard) (from now : Outside) (last : Seen) (bytes : List ℕ) (stop : Bool) (put : PutsBy from.screen false last stop bytes) (none : stop ≡ false → last.kept ≡ []) where
+module _ (s : Session) (symbols : List Symbol) (actions rest : List Action) (input left : Heard) (from now : Outside) (last : Seen) (shown : List ℕ) (stop : Bool) (put : PutsBy from.screen false last stop (shown ++ end_bytes)) (none : stop ≡ false → last.kept ≡ []) where
   abbrev old : Ports
   old = record { input = input; log = from.log; screen = from.screen; tape = from.tape }
 
   abbrev new : (log tape : Seen) → Ports
   new log tape = record { input = left; log = log; screen = last; tape = tape }
 
+  abbrev bytes : List ℕ
+  bytes = shown ++ end_bytes
+
   abbrev taped-text : List ℕ
   taped-text = script_text (events_in s.desc actions)
 
   -- it ended by itself
   module _ (tape : Seen) (torn : Bool) (taped : PutsBy from.tape false tape torn taped-text) (clear : torn ≡ false → tape.kept ≡ []) where
-    parted : (log : Seen) (parting : Parting) (passed : Result (Unit {0}) WriteFailed) (b t : Bool) → stop ≡ b → torn ≡ t → HasCome input left symbols → Takes from.log now.log (output s (script_of s.desc actions)) → PartsBy s actions left symbols rest parting → PassesOn now.log log passed → ComesOf s symbols actions rest bytes old (new log tape) (told_with parting passed b t)
+    parted : (log : Seen) (parting : Parting) (passed : Result (Unit {0}) WriteFailed) (b t : Bool) → stop ≡ b → torn ≡ t → HasCome input left symbols → Takes from.log now.log (output s (script_of s.desc actions)) → PartsBy s actions left symbols rest parting → PassesOn now.log log passed → ComesOf s symbols actions rest shown old (new log tape) (told_with parting passed b t)
     parted log parting (Err failed) b t e f come takes parts held = (come, held-back (output s (script_of s.desc actions)) takes held, written-by from.screen last bytes stop put none, taken-by from.tape tape taped-text torn taped)
     parted log parting (Ok done) true t e f come takes parts passed = (come, passed-on (output s (script_of s.desc actions)) takes passed, subst (λ x. PutsBy from.screen false last x bytes) e put, taken-by from.tape tape taped-text torn taped)
     parted log parting (Ok done) false true e f come takes parts passed = (come, passed-on (output s (script_of s.desc actions)) takes passed, written-by from.screen last bytes stop put none, taken-cut from.tape tape taped-text torn f taped)
@@ -270,27 +273,53 @@ module _ (s : Session) (symbols : List Symbol) (actions rest : List Action) (inp
       parts = parts;
     }
 
-    comes-parted : (log : Seen) (parting : Parting) (passed : Result (Unit {0}) WriteFailed) → CameTo s symbols actions rest input left from now (Ok parting) → PassesOn now.log log passed → ComesOf s symbols actions rest bytes old (new log tape) (told_with parting passed stop torn)
+    comes-parted : (log : Seen) (parting : Parting) (passed : Result (Unit {0}) WriteFailed) → CameTo s symbols actions rest input left from now (Ok parting) → PassesOn now.log log passed → ComesOf s symbols actions rest shown old (new log tape) (told_with parting passed stop torn)
     comes-parted log partings.Over passed came passes = parted log partings.Over passed stop torn refl refl came.0 came.1.1 came.1.0 passes
     comes-parted log partings.Left passed came passes = parted log partings.Left passed stop torn refl refl came.0 came.1.2 (came.1.0, came.1.1) passes
     comes-parted log partings.Ended passed came passes = parted log partings.Ended passed stop torn refl refl came.0 came.4 (came.1, came.2, came.3) passes
 
   -- or was broken off
-  comes-broken : (fault : PlayFault) (b : Bool) → stop ≡ b → IsTaped s actions from now → CameTo s symbols actions rest input left from now (Err fault) → (now.stopped ≡ true → stop ≡ true) → ComesOf s symbols actions rest bytes old (new now.log now.tape) (Err fault)
-  comes-broken faults.NoMemory b e taped came stays = came.1
-  comes-broken faults.Read b e taped came stays = (came.0, came.1, record { takes = came.2; none = came.5 }, written-by from.screen last bytes stop put none, record { takes = taken-whole from.tape now.tape taped-text now.torn came.4 taped; none = came.6 })
-  comes-broken faults.Log b e taped came stays = (came.0, came.1, written-by from.screen last bytes stop put none, taken-by from.tape now.tape taped-text now.torn taped)
-  comes-broken faults.Screen true e taped came stays = (came.0, came.1.0, subst (λ x. PutsBy from.screen false last x bytes) e put, taken-by from.tape now.tape taped-text now.torn taped)
-  comes-broken faults.Screen false e taped came stays = let yes = stays came.1.1 in absurd cc
-  comes-broken faults.Tape b e taped came stays = (came.0, came.1.0, written-by from.screen last bytes stop put none, taken-cut from.tape now.tape taped-text now.torn came.1.2 taped)
+  shown-out : PutsBy from.screen false now.screen now.stopped shown → now.stopped ≡ false → now.screen.kept ≡ [] → PutsBy now.screen false last stop end_bytes → IsShownOut from.screen now.screen last shown
+  shown-out before going clear ends = record {
+    passed = record { takes = taken-whole from.screen now.screen shown now.stopped going before; none = clear };
+    ended = written-by now.screen last end_bytes stop ends none;
+  }
+
+  comes-broken : (fault : PlayFault) (b : Bool) → stop ≡ b → PutsBy from.screen false now.screen now.stopped shown → (now.stopped ≡ false → PutsBy now.screen false last stop end_bytes) → IsTaped s actions from now → CameTo s symbols actions rest input left from now (Err fault) → (now.stopped ≡ true → stop ≡ true) → ComesOf s symbols actions rest shown old (new now.log now.tape) (Err fault)
+  comes-broken faults.NoMemory b e before ends taped came stays = came.1
+  comes-broken faults.Read b e before ends taped came stays = (came.0, came.1, came.2, record { takes = came.3; none = came.6 }, (now.screen, shown-out before came.4 came.8 (ends came.4)), record { takes = taken-whole from.tape now.tape taped-text now.torn came.5 taped; none = came.7 })
+  comes-broken faults.Log b e before ends taped came stays = (came.0, came.1, written-by from.screen last bytes stop put none, taken-by from.tape now.tape taped-text now.torn taped)
+  comes-broken faults.Screen true e before ends taped came stays = (came.0, came.1.0, subst (λ x. PutsBy from.screen false last x bytes) e put, taken-by from.tape now.tape taped-text now.torn taped)
+  comes-broken faults.Screen false e before ends taped came stays = let yes = stays came.1.1 in absurd cc
+  comes-broken faults.Tape b e before ends taped came stays = (came.0, came.1.0, written-by from.screen last bytes stop put none, taken-cut from.tape now.tape taped-text now.torn came.1.2 taped)
 
 module _ (s : Session) (input left : Heard) (from now : Outside) (last : Seen) (stop : Bool) (Left : Session → Type 0)
-    (put : (frames : List (List ℕ)) → PutsBy from.screen false now.screen now.stopped (concat frames) → PutsBy from.screen false last stop (concat frames ++ end_bytes)) (stays : now.stopped ≡ true → stop ≡ true) (none : stop ≡ false → last.kept ≡ []) where
+    (put : (first : Seen) (frames : List (List ℕ)) → PutsBy first false now.screen now.stopped (concat frames) → PutsBy first false last stop (concat frames ++ end_bytes)) (stays : now.stopped ≡ true → stop ≡ true) (none : stop ≡ false → last.kept ≡ []) where
   abbrev pub begun : Ports
   begun = record { input = input; log = from.log; screen = from.screen; tape = from.tape }
 
   abbrev pub ended : (log tape : Seen) → Ports
   ended log tape = record { input = left; log = log; screen = last; tape = tape }
+
+  -- the end was put where the screen's writer hadn't failed
+  end-put : now.stopped ≡ false → PutsBy now.screen false last stop end_bytes
+  end-put going = put now.screen [] (taped-none now.screen now.stopped going)
+
+  -- a failed read came after all was passed on that was shown
+  pub shown-before : {T : Type 0} (seen : T → Seen) (before : T) → seen before ≡ now.screen → (fault : PlayFault) → HasRun s input left from now Left (Err fault) → IsShownBefore seen from.screen last (Err fault)
+  shown-before seen before is faults.Read run = (
+    concat run.shown.frames,
+    (
+      before,
+      subst (λ (x : Seen). IsShownOut from.screen x last (concat run.shown.frames)) (sym is)
+          (shown-out s run.symbols run.actions run.rest input left from now last (concat run.shown.frames) stop (put from.screen run.shown.frames run.shown.put) none
+          run.shown.put run.came.4 run.came.8 (end-put run.came.4)),
+    ),
+  )
+  shown-before seen before is faults.NoMemory run = tt
+  shown-before seen before is faults.Log run = tt
+  shown-before seen before is faults.Screen run = tt
+  shown-before seen before is faults.Tape run = tt
 
   pub plays-parted : (log tape : Seen) (torn : Bool) (parting : Parting) (passed : Result (Unit {0}) WriteFailed) (result : Result Parting PlayFault) → result ≡ told_with parting passed stop torn → HasRun s input left from now Left (Ok parting) → PassesOn now.log log passed → PutsBy now.tape now.torn tape torn [] → (torn ≡ false → tape.kept ≡ []) → Plays from.monitor.painter.colours s begun (ended log tape) Left result
   plays-parted log tape torn parting passed result is run passes puts clear = record {
@@ -302,8 +331,8 @@ module _ (s : Session) (input left : Heard) (from now : Outside) (last : Seen) (
     frames = run.shown.frames;
     shows = run.shown.shows;
     restores = restores s run.actions run.shown.frames run.shown.shows;
-    comes = subst (ComesOf s run.symbols run.actions run.rest (concat run.shown.frames ++ end_bytes) begun (ended log tape)) (sym is)
-        (comes-parted s run.symbols run.actions run.rest input left from now last (concat run.shown.frames ++ end_bytes) stop (put run.shown.frames run.shown.put) none
+    comes = subst (ComesOf s run.symbols run.actions run.rest (concat run.shown.frames) begun (ended log tape)) (sym is)
+        (comes-parted s run.symbols run.actions run.rest input left from now last (concat run.shown.frames) stop (put from.screen run.shown.frames run.shown.put) none
         tape torn (put-still from.tape now.tape tape now.torn torn (script_text (events_in s.desc run.actions)) run.taped puts) clear log parting passed run.came passes);
   }
 
@@ -317,8 +346,21 @@ module _ (s : Session) (input left : Heard) (from now : Outside) (last : Seen) (
     frames = run.shown.frames;
     shows = run.shown.shows;
     restores = restores s run.actions run.shown.frames run.shown.shows;
-    comes = comes-broken s run.symbols run.actions run.rest input left from now last (concat run.shown.frames ++ end_bytes) stop (put run.shown.frames run.shown.put) none fault stop refl run.taped run.came stays;
+    comes = comes-broken s run.symbols run.actions run.rest input left from now last (concat run.shown.frames) stop (put from.screen run.shown.frames run.shown.put) none fault stop refl run.shown.put end-put run.taped run.came stays;
   }
+
+-- a run that ended by itself met no failed read
+told-unread : {T : Type 0} (seen : T → Seen) (first last : Seen) (parting : Parting) (passed : Result (Unit {0}) WriteFailed) (stop torn : Bool) → IsShownBefore seen first last (told_with parting passed stop torn)
+told-unread seen first last parting (Err failed) stop torn = tt
+told-unread seen first last parting (Ok done) true torn = tt
+told-unread seen first last parting (Ok done) false true = tt
+told-unread seen first last parting (Ok done) false false = tt
+
+pub unread : {T : Type 0} (seen : T → Seen) (first last : Seen) (parting : Parting) (passed : Result (Unit {0}) WriteFailed) (stop torn : Bool) (result : Result Parting PlayFault) → result ≡ told_with parting passed stop torn → IsShownBefore seen first last result
+unread seen first last parting passed stop torn result is = subst (IsShownBefore seen first last) (sym is) (told-unread seen first last parting passed stop torn)
+
+pub shown-lent : {T : Type 0} (seen : T → Seen) (first last last' : Seen) (result : Result Parting PlayFault) → last ≡ last' → IsShownBefore seen first last result → IsShownBefore seen first last' result
+shown-lent seen first last last' result same shown = subst (λ (x : Seen). IsShownBefore seen first x result) same shown
 
 -- what was played, as it stands once what was lent is back
 plays-told : (colours : Colours) (s : Session) (first last : Ports) (Left : Session → Type 0) (result : Result Parting PlayFault) → Plays colours s first last Left result → PlaysTo colours s first last Left result

@@ -28,6 +28,12 @@ pub record IsWrittenOut (old new : Seen) (text : List ℕ) : Type 0 where
 abbrev pub IsWrittenOrCut : (old new : Seen) → List ℕ → Type 0
 IsWrittenOrCut old new text = IsWrittenOut old new text ⊎ Cuts old new text
 
+-- what was shown was passed on, with nothing kept back, and the end was written behind it, or the writer failed at
+-- that
+pub record IsShownOut (old before new : Seen) (shown : List ℕ) : Type 0 where
+  pub passed : IsWrittenOut old before shown
+  pub ended : IsWrittenOrCut before new end_bytes
+
 -- the whole text was written, of which something may be kept back, or the writer failed
 abbrev pub IsTakenOrCut : (old new : Seen) → List ℕ → Type 0
 IsTakenOrCut old new text = Takes old new text ⊎ Cuts old new text
@@ -63,32 +69,36 @@ pub record IsPlayed (s : Session) (symbols : List Symbol) (actions rest : List A
 
 -- what came of one that was broken off
 abbrev pub IsBroken : (s : Session) (symbols : List Symbol) (actions rest : List Action)
-    (bytes : List ℕ)
+    (shown : List ℕ)
     (old new : Ports) → PlayFault → Type 0
-IsBroken s symbols actions rest bytes old new faults.Read =
-    ((mid : Heard) × HasCome old.input mid symbols × ComesNot mid new.input) × (rest ≡ [])
-    × IsWrittenOut old.log new.log (output s (script_of s.desc actions)) × IsWrittenOrCut old.screen new.screen bytes
+IsBroken s symbols actions rest shown old new faults.Read =
+    ((mid : Heard) × HasCome old.input mid symbols × ComesNot mid new.input)
+    × (is_finished (reached s actions) ≡ false) × (rest ≡ [])
+    × IsWrittenOut old.log new.log (output s (script_of s.desc actions))
+    × ((before : Seen) × IsShownOut old.screen before new.screen shown)
     × IsWrittenOut old.tape new.tape (script_text (events_in s.desc actions))
-IsBroken s symbols actions rest bytes old new faults.Log =
+IsBroken s symbols actions rest shown old new faults.Log =
     HasCome old.input new.input symbols
-    × Cuts old.log new.log (output s (script_of s.desc actions)) × IsWrittenOrCut old.screen new.screen bytes
+    × Cuts old.log new.log (output s (script_of s.desc actions))
+    × IsWrittenOrCut old.screen new.screen (shown ++ end_bytes)
     × IsTakenOrCut old.tape new.tape (script_text (events_in s.desc actions))
-IsBroken s symbols actions rest bytes old new faults.Screen =
+IsBroken s symbols actions rest shown old new faults.Screen =
     HasCome old.input new.input symbols
-    × Takes old.log new.log (output s (script_of s.desc actions)) × Cuts old.screen new.screen bytes
+    × Takes old.log new.log (output s (script_of s.desc actions)) × Cuts old.screen new.screen (shown ++ end_bytes)
     × IsTakenOrCut old.tape new.tape (script_text (events_in s.desc actions))
-IsBroken s symbols actions rest bytes old new faults.Tape =
+IsBroken s symbols actions rest shown old new faults.Tape =
     HasCome old.input new.input symbols
-    × Takes old.log new.log (output s (script_of s.desc actions)) × IsWrittenOrCut old.screen new.screen bytes
+    × Takes old.log new.log (output s (script_of s.desc actions))
+    × IsWrittenOrCut old.screen new.screen (shown ++ end_bytes)
     × Cuts old.tape new.tape (script_text (events_in s.desc actions))
-IsBroken s symbols actions rest bytes old new faults.NoMemory = ⊥
+IsBroken s symbols actions rest shown old new faults.NoMemory = ⊥
 
 abbrev pub ComesOf : (s : Session) (symbols : List Symbol) (actions rest : List Action)
-    (bytes : List ℕ)
+    (shown : List ℕ)
     (old new : Ports) → Result Parting PlayFault → Type 0
-ComesOf s symbols actions rest bytes old new (Ok parting) =
-    IsPlayed s symbols actions rest bytes old new parting
-ComesOf s symbols actions rest bytes old new (Err fault) = IsBroken s symbols actions rest bytes old new fault
+ComesOf s symbols actions rest shown old new (Ok parting) =
+    IsPlayed s symbols actions rest (shown ++ end_bytes) old new parting
+ComesOf s symbols actions rest shown old new (Err fault) = IsBroken s symbols actions rest shown old new fault
 
 -- A run from a session, shown by some colours. The actions are the first of what the symbols that came mean; the
 -- session that is left is the one to which their events lead; the log is what the script of these writes, and the
@@ -106,7 +116,7 @@ pub record Plays (colours : Colours) (s : Session) (old new : Ports) (Left : Ses
   pub frames : List (List ℕ)
   pub shows : ShowsEach colours s actions frames
   pub restores : IsRestored s actions frames
-  pub comes : ComesOf s symbols actions rest (concat frames ++ end_bytes) old new result
+  pub comes : ComesOf s symbols actions rest (concat frames) old new result
 
 -- nothing was read or written, and the session is left as it was
 pub record IsUnbegun (s : Session) (old new : Ports) (Left : Session → Type 0) : Type 0 where
@@ -118,6 +128,12 @@ abbrev pub PlaysTo : (colours : Colours) (s : Session) (old new : Ports) (Left :
     → Result Parting PlayFault → Type 0
 PlaysTo colours s old new Left (Err faults.NoMemory) = IsUnbegun s old new Left
 PlaysTo colours s old new Left result = Plays colours s old new Left result
+
+-- Where a read failed, the writer of the screen was once as after all that was shown had been passed on, and only
+-- the end was written since
+abbrev pub IsShownBefore : {T : Type 0} → (T → Seen) → (old new : Seen) → Result Parting PlayFault → Type 0
+IsShownBefore {T} seen old new (Err faults.Read) = (shown : List ℕ) × ((before : T) × IsShownOut old (seen before) new shown)
+IsShownBefore {T} seen old new result = Unit {0}
 
 -- a run that ended by itself, but for a log that couldn't be passed on, or a screen or a tape that couldn't be
 -- written

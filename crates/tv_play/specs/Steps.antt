@@ -143,7 +143,8 @@ CameTo s symbols actions rest input later from now (Ok partings.Ended) =
     × IsAtEnd later symbols
     × Takes from.log now.log (output s (script_of s.desc actions)) × (now.stopped ≡ false) × (now.torn ≡ false)
 CameTo s symbols actions rest input later from now (Err faults.Read) =
-    ((mid : Heard) × HasCome input mid symbols × ComesNot mid later) × (rest ≡ [])
+    ((mid : Heard) × HasCome input mid symbols × ComesNot mid later)
+    × (is_finished (reached s actions) ≡ false) × (rest ≡ [])
     × Takes from.log now.log (output s (script_of s.desc actions)) × (now.stopped ≡ false) × (now.torn ≡ false)
     × (now.log.kept ≡ []) × (now.tape.kept ≡ []) × (now.screen.kept ≡ [])
 CameTo s symbols actions rest input later from now outcome =

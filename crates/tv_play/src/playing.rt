@@ -5,7 +5,7 @@ ghost use Rattle.tv_terminal.specs.Decoding.{between};
 ghost use Rattle.tv_machine.specs.Run.{Session};
 ghost use Rattle.tv_play.specs.Player.{HasPlayed, HasSame, IsReady, outside_of, ports_of};
 ghost use Rattle.tv_play.specs.Outputs.{HasSameOutputs, ports_with};
-ghost use Rattle.tv_play.specs.Playing.{Plays, PlaysTo, told_with};
+ghost use Rattle.tv_play.specs.Playing.{IsShownBefore, Plays, PlaysTo, told_with};
 ghost use Rattle.tv_play.specs.Notes.{IsMonitorOf};
 ghost use Rattle.tv_play.specs.Steps.{HasRun, Outside, or_end};
 
@@ -50,6 +50,7 @@ pub fn play<L: Live, P: Pieces, T: Writer, W: Writer, R: Writer>(
     ensures plays { (s : Session) → L.stands stage.old s
         → PlaysTo outputs.old.colours s (ports_with T.seen W.seen R.seen (P.heard pieces.old) outputs.old)
         (ports_with T.seen W.seen R.seen (P.heard pieces.new) outputs.new) (L.stands stage.new) result }
+    ensures passed { IsShownBefore T.seen (T.seen outputs.old.screen.now) (T.seen outputs.new.screen.now) result }
 {
     let Ok(mut monitor) = monitor_of(alloc, stage, outputs.colours) else {
         return Err(PlayFault::NoMemory);
@@ -84,6 +85,7 @@ fn play_with<L: Live, P: Pieces, T: Writer, W: Writer, R: Writer>(
     ensures plays { (s : Session) → L.stands stage.old s
         → PlaysTo monitor.old.painter.colours s (ports_with T.seen W.seen R.seen (P.heard pieces.old) outputs.old)
         (ports_with T.seen W.seen R.seen (P.heard pieces.new) outputs.new) (L.stands stage.new) result }
+    ensures passed { IsShownBefore T.seen (T.seen outputs.old.screen.now) (T.seen outputs.new.screen.now) result }
 {
     let mut player = Player {
         stage,
@@ -112,6 +114,7 @@ impl<L: Live, T: Writer, W: Writer, R: Writer> Player<'_, '_, '_, '_, '_, L, T, 
         ensures plays { (s : Session) → L.stands self.old.stage.now s
             → Plays self.old.monitor.now.painter.colours s (ports_of T.seen W.seen R.seen (P.heard pieces.old) self.old)
             (ports_of T.seen W.seen R.seen (P.heard pieces.new) self.new) (L.stands self.new.stage.now) result }
+        ensures passed { IsShownBefore T.seen (T.seen self.old.pen.out.now) (T.seen self.new.pen.out.now) result }
     {
         let outcome = self.play_begun(pieces);
         show::end(&mut self.monitor.painter, &mut self.pen);
