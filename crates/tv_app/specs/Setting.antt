@@ -1,5 +1,5 @@
 -- When a record fits a dialog, and how it is handed in.
-use Rattle.std.specs.Prelude.{◌≡◌, ℕ, true, List, length, All, Option, Some, None, position, slice_get}
+use Rattle.std.specs.Prelude.{◌≡◌, ◌≢◌, ℕ, true, List, length, All, Option, Some, None, position, slice_get}
 use Rattle.std.specs.Prelude.{if◌then◌else◌}
 use Rattle.tv_app.specs.Running.{Runs}
 use Rattle.tv_app.specs.declared.app.App.{App}
@@ -63,11 +63,11 @@ RefusesFields dialog values unset.NoMemory = Unit {0}
 RefusesFields dialog values unset.NoDialog = ⊥
 RefusesFields dialog values unset.Unfit = FitsDialog dialog values → ⊥
 
--- the same by the dialog's name, which no dialog may have
+-- the same by a name: it doesn't fit the dialog that has that, or none has
 abbrev pub RefusesRecord : Desc → List ℕ → Entries → Unset → Type 0
 RefusesRecord d name values unset.NoMemory = Unit {0}
 RefusesRecord d name values unset.NoDialog = position (is_named name) d.dialogs ≡ None
-RefusesRecord d name values unset.Unfit = FitsNamed d name values → ⊥
+RefusesRecord d name values unset.Unfit = (position (is_named name) d.dialogs ≢ None) × (FitsNamed d name values → ⊥)
 
 -- the record fits, and its values are taken in the order of the dialog's fields
 pub record IsTakenOf (d : Desc) (name : List ℕ) (values : Entries) (taken : Taken) : Type 0 where
