@@ -12,6 +12,7 @@ use Rattle.tv_live.proofs.CourseLemmas.{symbols-more, turn-more}
 use Rattle.tv_live.proofs.ShownLemmas.{restores}
 use Rattle.tv_machine.specs.Run.{Session}
 use Rattle.tv_play.specs.Pieces.{ComesNot, FitsRoom, HasCome, Heard, symbols_in}
+use Rattle.tv_play.specs.Playing.{IsShownBefore, IsShownOut, IsWrittenOrCut}
 use Rattle.tv_play.specs.Steps.{IsAtEnd}
 use Rattle.tv_play.specs.declared.parting.Parting.{Parting}
 use Rattle.tv_play.specs.declared.parting.Parting.TheVariants as partings
@@ -136,21 +137,32 @@ module _ {P : Type 0} {makes : Promise P} {colours : Colours} {program : P} {s :
 
 -- ---- the end
 
-comes : {P : Type 0} (symbols : List Symbol) (now : Moment P) (rest : List Cause) (bytes : List ℕ) (old new : Place P) (stopped stop : Bool) (outcome : Result Parting PlayFault) → CameTo symbols now rest old.input new.input stopped outcome → PutsBy old.screen false new.screen stop bytes → (stop ≡ false → new.screen.kept ≡ []) → (stopped ≡ true → stop ≡ true)
-    → ComesOf symbols now rest bytes old new (told_with outcome stop)
-comes symbols now rest bytes old new stopped true (Ok partings.Over) came put none stays = (came.0, put)
-comes symbols now rest bytes old new stopped false (Ok partings.Over) came put none stays = (came.0, record { takes = put; none = none refl }, came.1.0)
-comes symbols now rest bytes old new stopped true (Ok partings.Left) came put none stays = (came.0, put)
-comes symbols now rest bytes old new stopped false (Ok partings.Left) came put none stays = (came.0, record { takes = put; none = none refl }, (came.1.0, came.1.1))
-comes symbols now rest bytes old new stopped true (Ok partings.Ended) came put none stays = (came.0, put)
-comes symbols now rest bytes old new stopped false (Ok partings.Ended) came put none stays = (came.0, record { takes = put; none = none refl }, (came.1, came.2, came.3))
-comes symbols now rest bytes old new stopped true (Err faults.Read) came put none stays = (came.0, came.1, came.2, inr put)
-comes symbols now rest bytes old new stopped false (Err faults.Read) came put none stays = (came.0, came.1, came.2, inl (record { takes = put; none = none refl }))
-comes symbols now rest bytes old new stopped true (Err faults.Screen) came put none stays = (came.0, put)
-comes symbols now rest bytes old new stopped false (Err faults.Screen) came put none stays = let yes : false ≡ true = stays came.1 in absurd cc
-comes symbols now rest bytes old new stopped stop (Err faults.NoMemory) came put none stays = absurd came.1
-comes symbols now rest bytes old new stopped stop (Err faults.Log) came put none stays = absurd came.1
-comes symbols now rest bytes old new stopped stop (Err faults.Tape) came put none stays = absurd came.1
+ended-by : (from last : Seen) (stop : Bool) → PutsBy from false last stop end_bytes → (stop ≡ false → last.kept ≡ []) → IsWrittenOrCut from last end_bytes
+ended-by from last true put none = inr put
+ended-by from last false put none = inl (record { takes = put; none = none refl })
+
+-- what was shown was passed on before the end was written
+shown-out : (old screen mid last : Seen) (shown : List ℕ) (stopped between stop : Bool) → stopped ≡ false → screen.kept ≡ [] → PutsBy old false screen stopped shown → PutsBy screen stopped mid between end_bytes → PutsBy mid between last stop [] → (stop ≡ false → last.kept ≡ []) → IsShownOut old screen last shown
+shown-out old screen mid last shown true between stop going clear put ends passes none = absurd cc
+shown-out old screen mid last shown false between stop going clear put ends passes none = record {
+  passed = record { takes = put; none = clear };
+  ended = ended-by screen last stop (put-still screen mid last between stop end_bytes ends passes) none;
+}
+
+comes : {P : Type 0} (symbols : List Symbol) (now : Moment P) (rest : List Cause) (shown : List ℕ) (old new : Place P) (screen : Seen) (stopped stop : Bool) (outcome : Result Parting PlayFault) → CameTo symbols now rest old.input new.input stopped outcome → PutsBy old.screen false new.screen stop (shown ++ end_bytes) → (stop ≡ false → new.screen.kept ≡ []) → (stopped ≡ true → stop ≡ true) → (outcome ≡ Err faults.Read → IsShownOut old.screen screen new.screen shown)
+    → ComesOf symbols now rest shown old new (told_with outcome stop)
+comes symbols now rest shown old new screen stopped true (Ok partings.Over) came put none stays out = (came.0, put)
+comes symbols now rest shown old new screen stopped false (Ok partings.Over) came put none stays out = (came.0, record { takes = put; none = none refl }, came.1.0)
+comes symbols now rest shown old new screen stopped true (Ok partings.Left) came put none stays out = (came.0, put)
+comes symbols now rest shown old new screen stopped false (Ok partings.Left) came put none stays out = (came.0, record { takes = put; none = none refl }, (came.1.0, came.1.1))
+comes symbols now rest shown old new screen stopped true (Ok partings.Ended) came put none stays out = (came.0, put)
+comes symbols now rest shown old new screen stopped false (Ok partings.Ended) came put none stays out = (came.0, record { takes = put; none = none refl }, (came.1, came.2, came.3))
+comes symbols now rest shown old new screen stopped stop (Err faults.Read) came put none stays out = (came.0, came.1, came.2, (screen, out refl))
+comes symbols now rest shown old new screen stopped true (Err faults.Screen) came put none stays out = (came.0, put)
+comes symbols now rest shown old new screen stopped false (Err faults.Screen) came put none stays out = let yes : false ≡ true = stays came.1 in absurd cc
+comes symbols now rest shown old new screen stopped stop (Err faults.NoMemory) came put none stays out = absurd came.1
+comes symbols now rest shown old new screen stopped stop (Err faults.Log) came put none stays out = absurd came.1
+comes symbols now rest shown old new screen stopped stop (Err faults.Tape) came put none stays out = absurd came.1
 
 -- the end was written and passed on too
 pub lives : {P : Type 0} {makes : Promise P} {colours : Colours} {s : Session} (input later : Heard) (old scene : Scene P) (mid last : Seen) (between stop : Bool) (outcome result : Result Parting PlayFault) → HasRun makes colours old.program s old.screen input later scene outcome
@@ -159,6 +171,9 @@ pub lives : {P : Type 0} {makes : Promise P} {colours : Colours} {s : Session} (
 lives {P} {makes} {colours} {s} input later old scene mid last between stop outcome result run ends passes none is =
     let moments = run.now ∷ run.earlier in
     let put = put-still old.screen mid last between stop (text moments ++ end_bytes) (put-then old.screen scene.screen mid scene.stopped between (text moments) end_bytes run.done.shown.put ends) passes in
+    let out : outcome ≡ Err faults.Read → IsShownOut old.screen scene.screen last (text moments)
+    = λ read. shown-out old.screen scene.screen mid last (text moments) scene.stopped between stop
+    (subst (CameTo (symbols_in_all run.pieces) run.now run.rest input later scene.stopped) read run.came).3 (run.passed read) run.done.shown.put ends passes none in
     let stays : scene.stopped ≡ true → stop ≡ true = λ yes. stays-stopped mid last between stop [] passes (stays-stopped scene.screen mid scene.stopped between end_bytes ends yes) in
     record {
       pieces = run.pieces;
@@ -171,9 +186,36 @@ lives {P} {makes} {colours} {s} input later old scene mid last between stop outc
       program = run.done.left;
       shows = run.done.shown.shows;
       restores = restores s.desc moments run.done.shown.shows;
-      comes = subst (ComesOf (symbols_in_all run.pieces) run.now run.rest (text moments ++ end_bytes) (place_in input old) (place_with scene.app scene.program later last)) (sym is)
-          (comes (symbols_in_all run.pieces) run.now run.rest (text moments ++ end_bytes) (place_in input old) (place_with scene.app scene.program later last) scene.stopped stop outcome run.came put none stays);
+      comes = subst (ComesOf (symbols_in_all run.pieces) run.now run.rest (text moments) (place_in input old) (place_with scene.app scene.program later last)) (sym is)
+          (comes (symbols_in_all run.pieces) run.now run.rest (text moments) (place_in input old) (place_with scene.app scene.program later last) scene.screen scene.stopped stop outcome run.came put none stays out);
     }
+
+-- a failed read came after all was passed on that was shown
+told-shown : {T : Type 0} (seen : T → Seen) (old last : Seen) (outcome : Result Parting PlayFault) (stop : Bool) → (outcome ≡ Err faults.Read → IsShownBefore seen old last (Err faults.Read)) → IsShownBefore seen old last (told_with outcome stop)
+told-shown seen old last (Ok parting) true read = tt
+told-shown seen old last (Ok parting) false read = tt
+told-shown seen old last (Err faults.Read) stop read = read refl
+told-shown seen old last (Err faults.NoMemory) stop read = tt
+told-shown seen old last (Err faults.Log) stop read = tt
+told-shown seen old last (Err faults.Screen) stop read = tt
+told-shown seen old last (Err faults.Tape) stop read = tt
+
+pub shown-before : {P T : Type 0} {makes : Promise P} {colours : Colours} {s : Session} (seen : T → Seen) (before : T) (input later : Heard) (old scene : Scene P) (mid last : Seen) (between stop : Bool) (outcome result : Result Parting PlayFault) → seen before ≡ scene.screen → HasRun makes colours old.program s old.screen input later scene outcome
+    → PutsBy scene.screen scene.stopped mid between end_bytes → PutsBy mid between last stop [] → (stop ≡ false → last.kept ≡ []) → result ≡ told_with outcome stop
+    → IsShownBefore seen old.screen last result
+shown-before seen before input later old scene mid last between stop outcome result same run ends passes none is =
+    let shown = text (run.now ∷ run.earlier) in
+    subst (IsShownBefore seen old.screen last) (sym is)
+    (told-shown seen old.screen last outcome stop
+    (λ read. (
+      shown,
+      (
+        before,
+        subst (λ (x : Seen). IsShownOut old.screen x last shown) (sym same)
+            (shown-out old.screen scene.screen mid last shown scene.stopped between stop
+            (subst (CameTo (symbols_in_all run.pieces) run.now run.rest input later scene.stopped) read run.came).3 (run.passed read) run.done.shown.put ends passes none),
+      ),
+    )))
 
 pub lives-to : {P : Type 0} {makes : Promise P} {colours : Colours} {s : Session} (old new : Place P) (result : Result Parting PlayFault) → Lives makes colours s old new result → LivesTo makes colours s old new result
 lives-to old new (Ok parting) l = l

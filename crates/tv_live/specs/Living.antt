@@ -10,7 +10,7 @@ use Rattle.tv_machine.specs.Run.{Session}
 use Rattle.tv_model.specs.declared.desc.Desc.{Desc}
 use Rattle.tv_play.specs.Ends.{is_leaving}
 use Rattle.tv_play.specs.Pieces.{ComesNot, HasCome, Heard}
-use Rattle.tv_play.specs.Playing.{IsWrittenOrCut, IsWrittenOut}
+use Rattle.tv_play.specs.Playing.{IsShownOut, IsWrittenOut}
 use Rattle.tv_play.specs.Steps.{IsAtEnd}
 use Rattle.tv_play.specs.declared.parting.Parting.{Parting}
 use Rattle.tv_play.specs.declared.parting.Parting.TheVariants as partings
@@ -42,18 +42,18 @@ PartsBy now rest input symbols partings.Over = IsOver now
 PartsBy now rest input symbols partings.Left = GoesOn now × LeavesWith now.session.desc rest
 PartsBy now rest input symbols partings.Ended = GoesOn now × (rest ≡ []) × IsAtEnd input symbols
 
--- what came of it
+-- what came of it, with what was shown
 abbrev pub ComesOf : {P : Type 0} → List Symbol → Moment P → List Cause → List ℕ → (old new : Place P)
     → Result Parting PlayFault → Type 0
-ComesOf symbols now rest bytes old new (Ok parting) =
-    HasCome old.input new.input symbols × IsWrittenOut old.screen new.screen bytes
+ComesOf symbols now rest shown old new (Ok parting) =
+    HasCome old.input new.input symbols × IsWrittenOut old.screen new.screen (shown ++ end_bytes)
     × PartsBy now rest new.input symbols parting
-ComesOf symbols now rest bytes old new (Err faults.Read) =
+ComesOf symbols now rest shown old new (Err faults.Read) =
     ((mid : Heard) × HasCome old.input mid symbols × ComesNot mid new.input) × GoesOn now × (rest ≡ [])
-    × IsWrittenOrCut old.screen new.screen bytes
-ComesOf symbols now rest bytes old new (Err faults.Screen) =
-    HasCome old.input new.input symbols × Cuts old.screen new.screen bytes
-ComesOf symbols now rest bytes old new (Err _) = ⊥
+    × ((before : Seen) × IsShownOut old.screen before new.screen shown)
+ComesOf symbols now rest shown old new (Err faults.Screen) =
+    HasCome old.input new.input symbols × Cuts old.screen new.screen (shown ++ end_bytes)
+ComesOf symbols now rest shown old new (Err _) = ⊥
 
 -- A run of a program from a session on. Moments came of the first of what there was to do: the begin, what the
 -- pieces mean that came, and a turn behind each. At each the program was asked by its news, from the session that
@@ -72,7 +72,7 @@ pub record Lives {P : Type 0} (makes : Promise P) (colours : Colours) (s : Sessi
   pub program : new.program ≡ now.program
   pub shows : ShowsEach colours s.desc (now ∷ earlier)
   pub restores : IsRestored s.desc (now ∷ earlier)
-  pub comes : ComesOf (symbols_in_all pieces) now rest (text (now ∷ earlier) ++ end_bytes) old new result
+  pub comes : ComesOf (symbols_in_all pieces) now rest (text (now ∷ earlier)) old new result
 
 -- or there was no memory to begin, and nothing was read or written
 abbrev pub LivesTo : {P : Type 0} → Promise P → Colours → Session → (old new : Place P)

@@ -6,6 +6,7 @@ ghost use Rattle.tv_live.specs.Host.{HasRun, HasSame, IsReady, RunsOn, place_in,
 ghost use Rattle.tv_live.specs.Living.{Lives, LivesTo};
 ghost use Rattle.tv_live.specs.Shown.{IsPainterOf};
 ghost use Rattle.tv_machine.specs.Run.{Session};
+ghost use Rattle.tv_play.specs.Playing.{IsShownBefore};
 ghost use Rattle.tv_terminal.specs.Decoding.{between};
 ghost use Rattle.tv_terminal.specs.declared.colour.Colours.TheVariants.{Sixteen};
 
@@ -43,9 +44,10 @@ pub fn live<P: Program, I: Pieces, T: Writer>(
     program: &mut P,
 ) -> Result<Parting, PlayFault>
     requires there { (s : Session) × Runs app.old s }
-    ensures { (s : Session) → Runs app.old s
+    ensures lives { (s : Session) → Runs app.old s
         → LivesTo P.makes Sixteen s (place_with app.old program.old (I.heard pieces.old) (T.seen screen.old))
         (place_with app.new program.new (I.heard pieces.new) (T.seen screen.new)) result }
+    ensures passed { IsShownBefore T.seen (T.seen screen.old) (T.seen screen.new) result }
 {
     let Ok(mut painter) = painter_of(alloc, app) else {
         return Err(PlayFault::NoMemory);
@@ -72,9 +74,10 @@ fn live_with<P: Program, I: Pieces, T: Writer>(
 ) -> Outcome
     requires there { (s : Session) × Runs app.old s }
     requires painter { (s : Session) → Runs app.old s → IsPainterOf s.desc None painter.old }
-    ensures { (s : Session) → Runs app.old s
+    ensures lives { (s : Session) → Runs app.old s
         → Lives P.makes painter.old.colours s (place_with app.old program.old (I.heard pieces.old) (T.seen screen.old))
         (place_with app.new program.new (I.heard pieces.new) (T.seen screen.new)) result }
+    ensures passed { IsShownBefore T.seen (T.seen screen.old) (T.seen screen.new) result }
 {
     let mut host = Host {
         app,
@@ -101,6 +104,7 @@ impl<P: Program, T: Writer> Host<'_, '_, '_, '_, P, T> {
         ensures lives { (s : Session) → Runs self.old.app.now s
             → Lives P.makes self.old.painter.now.colours s (place_in (I.heard pieces.old) (scene_of T.seen self.old))
             (place_in (I.heard pieces.new) (scene_of T.seen self.new)) result }
+        ensures passed { IsShownBefore T.seen (T.seen self.old.pen.out.now) (T.seen self.new.pen.out.now) result }
     {
         let outcome = self.live_begun(pieces);
         self.painter.end(&mut self.pen);
