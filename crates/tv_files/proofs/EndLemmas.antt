@@ -113,12 +113,12 @@ module _ (P Q : Desc → Type 0) (weaker : (text : List ℕ) (d : Desc) → IsSo
   PlaysFile-weaker files after file old new how end (played_file text gives came) =
       played_file text gives (came.0, PlaysText-weaker text old new came.0 came.1, came.2, came.3)
 
-  RecordsFile-weaker : {colours : Colours} (files after : Known) (file script : List ℕ) (old new : Ports) (how : Done) (end : End) → RecordsFile P colours files after file script old new how end → RecordsFile Q colours files after file script old new how end
-  RecordsFile-weaker files after file script old new how end (unread_record is same whole) = unread_record is same whole
-  RecordsFile-weaker files after file script old new how end (refused_record text fault gives refuses same whole told) = refused_record text fault gives refuses same whole told
-  RecordsFile-weaker files after file script old new how end (unmade_record text d fault read gives sound makes same whole told) = unmade_record text d fault read gives sound makes same whole told
-  RecordsFile-weaker files after file script old new how end (played_record text made tape r read gives makes came same told) =
-      played_record text made tape r read gives makes (PlaysText-weaker text (with_tape old made) (with_tape new tape) r came) same told
+  RecordsFile-weaker : {T U : (path : List ℕ) (begun ended : Seen) → Type 0} → ((path : List ℕ) (begun ended : Seen) → T path begun ended → U path begun ended) → {colours : Colours} (files after : Known) (file script : List ℕ) (old new : Ports) (how : Done) (end : End) → RecordsFile P T colours files after file script old new how end → RecordsFile Q U colours files after file script old new how end
+  RecordsFile-weaker tapes files after file script old new how end (unread_record is same whole) = unread_record is same whole
+  RecordsFile-weaker tapes files after file script old new how end (refused_record text fault gives refuses same whole told) = refused_record text fault gives refuses same whole told
+  RecordsFile-weaker tapes files after file script old new how end (unmade_record text d fault read gives sound makes same whole told) = unmade_record text d fault read gives sound makes same whole told
+  RecordsFile-weaker tapes files after file script old new how end (played_record text d begun ended r read gives sound makes tape came same told) =
+      played_record text d begun ended r read gives sound makes (tapes script begun ended tape) (PlaysText-weaker text (with_tape old begun) (with_tape new ended) r came) same told
 
   -- why a text isn't run
   RefusesRun-weaker : (text : List ℕ) (fault : RunFault) → RefusesRun P text fault → RefusesRun Q text fault
@@ -155,32 +155,32 @@ module _ (P Q : Desc → Type 0) (weaker : (text : List ℕ) (d : Desc) → IsSo
       done_beside text written is passed gives (was.0, was.1, was.2, AnswersTo-weaker answers was.0 written old new was.1 was.3, was.4)
 
   -- what a task comes to
-  Performs-weaker : (task : Task) (old new : KnownWorld) (how : Done) (end : End) → PerformsTask P task old new how end → PerformsTask Q task old new how end
-  Performs-weaker (Check file) old new how end came = came
-  Performs-weaker (Accept file certificate) old new how end came = came
-  Performs-weaker (Run file script) old new how end came =
+  Performs-weaker : {T U : (path : List ℕ) (begun ended : Seen) → Type 0} → ((path : List ℕ) (begun ended : Seen) → T path begun ended → U path begun ended) → (task : Task) (old new : KnownWorld) (how : Done) (end : End) → PerformsTask P T task old new how end → PerformsTask Q U task old new how end
+  Performs-weaker tapes (Check file) old new how end came = came
+  Performs-weaker tapes (Accept file certificate) old new how end came = came
+  Performs-weaker tapes (Run file script) old new how end came =
       (came.0, came.1, RunsFiles-weaker old.files new.files file.now script.now old.out new.out end came.2)
-  Performs-weaker (Play file colours) old new how end came =
+  Performs-weaker tapes (Play file colours) old new how end came =
       (came.0, PlaysFile-weaker old.files new.files file.now (ports_of old) (ports_of new) how end came.1)
-  Performs-weaker (Record file script colours) old new how end came =
-      (came.0, RecordsFile-weaker old.files new.files file.now script.now (ports_of old) (ports_of new) how end came.1)
-  Performs-weaker (Picture file script) old new how end came =
+  Performs-weaker tapes (Record file script colours) old new how end came =
+      (came.0, RecordsFile-weaker tapes old.files new.files file.now script.now (ports_of old) (ports_of new) how end came.1)
+  Performs-weaker tapes (Picture file script) old new how end came =
       (came.0, came.1, PicturesFiles-weaker old.files new.files file.now script.now old.out new.out end came.2)
-  Performs-weaker (PictureAll file script) old new how end came =
+  Performs-weaker tapes (PictureAll file script) old new how end came =
       (came.0, came.1, PicturesAll-weaker old.files new.files file.now script.now old.album new.album end came.2)
-  Performs-weaker (Fill file answers) old new how end came = came
-  Performs-weaker (Answer file answers) old new how end came =
+  Performs-weaker tapes (Fill file answers) old new how end came = came
+  Performs-weaker tapes (Answer file answers) old new how end came =
       (came.0, came.1, AnswersFiles-weaker old.files new.files file.now answers.now (written_of old) (written_of new) end came.2)
-  Performs-weaker (Box words) old new how end came = came
-  Performs-weaker (Explain file manner) old new how end came = came
-  Performs-weaker (ExplainBoth file other manner) old new how end came = came
-  Performs-weaker (Ways file) old new how end came = came
-  Performs-weaker (Way file wanted) old new how end came = came
-  Performs-weaker (Warn file manner denies) old new how end came = came
-  Performs-weaker Version old new how end came = came
+  Performs-weaker tapes (Box words) old new how end came = came
+  Performs-weaker tapes (Explain file manner) old new how end came = came
+  Performs-weaker tapes (ExplainBoth file other manner) old new how end came = came
+  Performs-weaker tapes (Ways file) old new how end came = came
+  Performs-weaker tapes (Way file wanted) old new how end came = came
+  Performs-weaker tapes (Warn file manner denies) old new how end came = came
+  Performs-weaker tapes Version old new how end came = came
 
   -- how the program ends
-  pub EndsWith-weaker : (asked : Result Task NoTask) (old new : KnownWorld) (status : ℕ) → EndsWith P asked old new status → EndsWith Q asked old new status
-  EndsWith-weaker (Ok task) old new status ends =
-      (ends.0, ends.1, ends.2, Performs-weaker task old ends.2 ends.0 ends.1 ends.3, ends.4, ends.5)
-  EndsWith-weaker (Err no_task) old new status ends = ends
+  pub EndsWith-weaker : {T U : (path : List ℕ) (begun ended : Seen) → Type 0} → ((path : List ℕ) (begun ended : Seen) → T path begun ended → U path begun ended) → (asked : Result Task NoTask) (old new : KnownWorld) (status : ℕ) → EndsWith P T asked old new status → EndsWith Q U asked old new status
+  EndsWith-weaker tapes (Ok task) old new status ends =
+      (ends.0, ends.1, ends.2, Performs-weaker tapes task old ends.2 ends.0 ends.1 ends.3, ends.4, ends.5)
+  EndsWith-weaker tapes (Err no_task) old new status ends = ends

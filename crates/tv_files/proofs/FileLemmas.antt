@@ -3,7 +3,7 @@ use Rattle.std.proofs.Common.{◌≡◌, ℕ, ◌+◌, List, [], ◌∷◌, ◌+
 use Rattle.tv_io.specs.Reader.{Given}
 use Rattle.tv_io.specs.Reading.{IsRead}
 use Rattle.tv_files.specs.Ends.{End}
-use Rattle.tv_files.specs.Files.{Extends, IsFileOf, Known, Opens}
+use Rattle.tv_files.specs.Files.{CountStays, Extends, IsFileOf, Known, LeavesFiles, Opens}
 use Rattle.tv_files.specs.Tasks.{BreaksOffIn, GivesText, IsUngiven, IsUnopened, IsUnread}
 use Rattle.tv_files.specs.Tasks.IsUngiven.{memory as ungiven_memory, broken as ungiven_broken}
 use Rattle.tv_files.specs.Tasks.IsUnopened.{memory, missing}
@@ -17,18 +17,30 @@ Extends-then (Some a) None c x y p q = absurd p
 Extends-then (Some a) (Some b) None x y p q = absurd q
 Extends-then (Some a) (Some b) (Some c) x y p q = q ∙ ap (λ (t : List (List ℕ)). t ++ y) p ∙ append_assoc a x y
 
+CountStays-then : (a b c : Option ℕ) → CountStays a b → CountStays b c → CountStays a c
+CountStays-then None b c p q = tt
+CountStays-then (Some a) None c p q = absurd p
+CountStays-then (Some a) (Some b) None p q = absurd q
+CountStays-then (Some a) (Some b) (Some c) p q = q ∙ p
+
+Leaves-then : {a b c : Known} → LeavesFiles a b → LeavesFiles b c → LeavesFiles a c
+Leaves-then {a} {b} {c} p q = record {
+  none = Extends-then a.made b.made c.made [] [] p.none q.none;
+  count = CountStays-then a.failures b.failures c.failures p.count q.count;
+  same = λ path. q.same path ∙ p.same path;
+  there = λ path. q.there path ∙ p.there path;
+}
+
 Opens-then : {a b c : Known} (x y : List (List ℕ)) → Opens a b x → Opens b c y → Opens a c (x ++ y)
 Opens-then {a} {b} {c} x y p q = record {
   order = Extends-then a.opened b.opened c.opened x y p.order q.order;
-  none = Extends-then a.made b.made c.made [] [] p.none q.none;
-  same = λ path. q.same path ∙ p.same path;
-  there = λ path. q.there path ∙ p.there path;
+  leaves = Leaves-then p.leaves q.leaves;
 }
 
 -- what is known of the second file was known before the first one was opened
 module _ {files mid : Known} (file beside : List ℕ) (opens : Opens files mid (file ∷ [])) where
   pub IsFileOf-then : {reader : Given} → IsFileOf mid beside reader → IsFileOf files beside reader
-  IsFileOf-then is = record { there = sym (opens.there beside) ∙ is.there; left = rw (opens.same beside) at is.left; going = is.going; unfailed = is.unfailed }
+  IsFileOf-then is = record { there = sym (opens.leaves.there beside) ∙ is.there; left = rw (opens.leaves.same beside) at is.left; going = is.going; unfailed = is.unfailed }
 
   BreaksOffIn-then : {limit : ℕ} → BreaksOffIn limit mid beside → BreaksOffIn limit files beside
   BreaksOffIn-then breaks = record { reader = breaks.reader; left = breaks.left; file = IsFileOf-then breaks.file; breaks = breaks.breaks }
@@ -42,13 +54,13 @@ module _ {files mid after : Known} (file beside : List ℕ) (opens : Opens files
   pub Gives-then : {limit : ℕ} {text : List ℕ} → GivesText limit mid after (beside ∷ []) beside text → GivesText limit files after (file ∷ beside ∷ []) beside text
   Gives-then gives = record {
     opens = Opens-both gives.opens;
-    text_of = rw (opens.same beside) at gives.text_of;
+    text_of = rw (opens.leaves.same beside) at gives.text_of;
   }
 
   -- the second file wasn't opened
   pub IsUnopened-then : {end : End} → IsUnopened mid after (beside ∷ []) beside end → IsUnopened files after (file ∷ beside ∷ []) beside end
-  IsUnopened-then (memory is) = memory is
-  IsUnopened-then (missing opened none is) = missing (Opens-both opened) (rw (opens.same beside) at none) is
+  IsUnopened-then (memory left is) = memory (Leaves-then opens.leaves left) is
+  IsUnopened-then (missing opened none is) = missing (Opens-both opened) (rw (opens.leaves.same beside) at none) is
 
   -- the second file wasn't read
   pub IsUnread-then : {limit : ℕ} {end : End} → IsUnread limit mid after (beside ∷ []) beside end → IsUnread limit files after (file ∷ beside ∷ []) beside end
@@ -68,5 +80,5 @@ module _ {files after : Known} {opened : List (List ℕ)} (limit : ℕ) (path : 
 
   -- it wasn't
   pub IsUngiven-IsUnread : {end : End} → IsUngiven limit reader left path end → IsUnread limit files after opened path end
-  IsUngiven-IsUnread (ungiven_memory told) = unopened (memory told)
+  IsUngiven-IsUnread (ungiven_memory told) = unopened (memory opens.leaves told)
   IsUngiven-IsUnread (ungiven_broken breaks told) = broken opens (record { reader = reader; left = left; file = is; breaks = breaks }) told

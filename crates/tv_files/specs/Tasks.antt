@@ -22,11 +22,12 @@ use Rattle.tv_files.specs.declared.done.Done.{Done}
 use Rattle.tv_files.specs.declared.done.Done.TheVariants.{Whole}
 use Rattle.tv_files.specs.Ends.{End, done_of_play, end_as, end_of_run}
 use Rattle.tv_files.specs.Ends.End.{ended, faulted}
-use Rattle.tv_files.specs.Files.{IsFileOf, IsFileText, Known, Opens, longest}
+use Rattle.tv_files.specs.Files.{IsFileOf, IsFileText, Known, LeavesFiles, Opens, longest}
 
--- the task ended at a file that can't be opened, the last one that was asked for, or because memory ran out
+-- the task ended at a file that can't be opened, the last one that was asked for, or because memory ran out; files are left
+-- as they were
 pub data IsUnopened (files after : Known) (opened : List (List ℕ)) (path : List ℕ) (end : End) : Type 0 where
-  memory : end ≡ faulted NoMemory path → IsUnopened files after opened path end
+  memory : LeavesFiles files after → end ≡ faulted NoMemory path → IsUnopened files after opened path end
   missing : Opens files after opened → IsNone (files.contents path) → end ≡ faulted Read path
       → IsUnopened files after opened path end
 

@@ -2,6 +2,7 @@
 use Rattle.std.specs.Duration.{as_nanos}
 use Rattle.std.specs.Prelude.{◌≡◌, ◌<◌, ◌≤◌, ◌/◌, ℕ, ◌+◌, Bool, List, [], ◌∷◌, ◌++◌, length, map, min, nat_lt, take}
 use Rattle.std.specs.Prelude.{Option, Some, None, if◌then◌else◌}
+use Rattle.tv_io.specs.Writer.{HasRisen}
 use Rattle.tv_files.specs.declared.timed_read.Reading.{Reading}
 use Rattle.tv_files.specs.declared.timed_read.Reading.TheVariants as readings
 use Rattle.tv_play.specs.Pieces.{Heard}
@@ -57,9 +58,11 @@ pub record IsQuiet (old new : Option (List Moment)) (before after : ℕ) (piece 
   pub short : after ≡ short_after waited before
   pub is : piece ≡ piece_after after
 
--- one read was heard: all its bytes, and then no read in a row was short; or none came; or it failed
-abbrev pub HearsRead : (old new : Option (List Moment)) (before after : ℕ) → Option Piece → List ℕ → Type 0
-HearsRead old new before after (Some (Bytes count)) room = Spends old new (map Came (take count room)) × (after ≡ 0)
-HearsRead old new before after (Some Pause) room = IsQuiet old new before after Pause
-HearsRead old new before after (Some End) room = IsQuiet old new before after End
-HearsRead old new before after None room = Spends old new [] × (after ≡ before)
+-- one read was heard: all its bytes, and then no read in a row was short; or none came; or the reader failed
+abbrev pub HearsRead : (old new : Option (List Moment)) (failed failed_after before after : ℕ) → Option Piece → List ℕ → Type 0
+HearsRead old new failed failed_after before after (Some (Bytes count)) room =
+    Spends old new (map Came (take count room)) × (after ≡ 0)
+HearsRead old new failed failed_after before after (Some Pause) room = IsQuiet old new before after Pause
+HearsRead old new failed failed_after before after (Some End) room = IsQuiet old new before after End
+HearsRead old new failed failed_after before after None room =
+    Spends old new [] × HasRisen failed failed_after × (after ≡ before)

@@ -1,6 +1,7 @@
 //! The program, from what it is asked for to its status.
 
 ghost use Rattle.tv_files.specs.EndsWith.{EndsWith};
+ghost use Rattle.tv_files.specs.Files.{IsTapeOf};
 ghost use Rattle.tv_files.specs.World.{known_world};
 ghost use Rattle.tv_program.specs.Playing.{IsMismade, Makes};
 
@@ -29,8 +30,8 @@ pub fn run_program<
 >(alloc: Global, asked: Result<Task<'_>, NoTask>, views: &M, world: &mut World<F, A, P, O, E>) -> u8
     requires { M.IsAlwaysCallable views.now }
     ensures { let known = known_world F.known A.hung P.heard O.seen E.seen in
-        EndsWith (IsMismade (Makes M.Fn views.now) V.meaning) asked.entry (known world.old)
-        (known world.new) result }
+        EndsWith (IsMismade (Makes M.Fn views.now) V.meaning) (IsTapeOf F.Made.seen F.made_at) asked.entry
+        (known world.old) (known world.new) result }
 {
     match asked {
         Ok(task) => {

@@ -1,6 +1,7 @@
 //! A run in a terminal, recorded in a file.
 
 ghost use Rattle.tv_files.specs.Ends.{done_in, end_of};
+ghost use Rattle.tv_files.specs.Files.{IsTapeOf};
 ghost use Rattle.tv_files.specs.Recording.{RecordsIn};
 ghost use Rattle.tv_files.specs.World.{known_world};
 ghost use Rattle.tv_program.specs.Playing.{IsMismade, Makes};
@@ -40,8 +41,8 @@ pub fn record_file<
 ) -> Result<Done, Failure<'a>>
     requires { M.IsAlwaysCallable views.now }
     ensures { let known = known_world F.known A.hung P.heard W.seen T.seen in
-        RecordsIn (IsMismade (Makes M.Fn views.now) V.meaning) colours paths.entry.file.now paths.entry.script.now
-        (known world.old) (known world.new) (done_in result) (end_of result) }
+        RecordsIn (IsMismade (Makes M.Fn views.now) V.meaning) (IsTapeOf F.Made.seen F.made_at) colours
+        paths.entry.file.now paths.entry.script.now (known world.old) (known world.new) (done_in result) (end_of result) }
 {
     let text = read_file(&mut world.files, alloc, paths.file)?;
     let checked = match read_checked(alloc, text.as_slice()) {

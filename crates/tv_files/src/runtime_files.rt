@@ -28,7 +28,9 @@ impl<R: Files> FileStore for RuntimeFiles<'_, R> {
 
     type Made = Device<R::File>;
 
-    ghost known = { λ _. record { contents = λ _. None; absent = λ _. false; opened = None; made = None } };
+    ghost known = { λ _. record { contents = λ _. None; absent = λ _. false; opened = None; made = None; failures = None } };
+
+    ghost made_at = { λ _ _. Unit {0} };
 
     fn open(&mut self, path: &str) -> Result<FileReader<R::File>, ReadFault> {
         let file = File::open(self.rt, path)?;

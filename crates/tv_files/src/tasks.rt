@@ -5,7 +5,7 @@ ghost use Rattle.tv_io.specs.Reading.{IsRead};
 ghost use Rattle.tv_program.specs.Playing.{IsMismade, Makes};
 ghost use Rattle.tv_files.specs.declared.done.Done.TheVariants.{Whole};
 ghost use Rattle.tv_files.specs.Ends.{done_in, end_of, end_of_failure};
-ghost use Rattle.tv_files.specs.Files.{IsFileOf, Opens, longest};
+ghost use Rattle.tv_files.specs.Files.{IsFileOf, IsTapeOf, Opens, longest};
 ghost use Rattle.tv_files.specs.Performing.{PerformsTask, PlaysIn};
 ghost use Rattle.tv_files.specs.Tasks.{AcceptsFiles, ChecksFile, EndsFirst, GivesText, HasRead, IsSpelledAs, IsUngiven};
 ghost use Rattle.tv_files.specs.Tasks.{IsUnopened, IsUnread, IsUnspelled, RunsFiles, TellsVersion};
@@ -65,8 +65,8 @@ pub fn perform<
 ) -> Result<Done, Failure<'a>>
     requires { M.IsAlwaysCallable views.now }
     ensures { let known = known_world F.known A.hung P.heard W.seen T.seen in
-        PerformsTask (IsMismade (Makes M.Fn views.now) V.meaning) task.entry (known world.old) (known world.new)
-        (done_in result) (end_of result) }
+        PerformsTask (IsMismade (Makes M.Fn views.now) V.meaning) (IsTapeOf F.Made.seen F.made_at) task.entry
+        (known world.old) (known world.new) (done_in result) (end_of result) }
 {
     match task {
         Task::Check { file } => whole(check_file(&mut world.files, alloc, file, &mut world.out)),

@@ -92,8 +92,8 @@ impl<T: TimedRead + Drop> Pieces for TerminalInput<T> {
             (heard_by self.new.failures self.new.is_ended) piece room.new) }
         ensures failed { result ≡ None
             → ComesNot (heard_by self.old.failures self.old.is_ended) (heard_by self.new.failures self.new.is_ended) }
-        ensures heard { HearsRead (T.coming self.old.reader)
-            (T.coming self.new.reader) self.old.short_reads self.new.short_reads result room.new }
+        ensures heard { HearsRead (T.coming self.old.reader) (T.coming self.new.reader) (T.failed self.old.reader)
+            (T.failed self.new.reader) self.old.short_reads self.new.short_reads result room.new }
     {
         self.is_ended = false;
         match self.reader.read(room) {

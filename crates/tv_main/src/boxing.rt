@@ -3,6 +3,7 @@
 ghost use Rattle.std.specs.Prelude.{◌≡◌, IfErr, IfOk, Result};
 ghost use Rattle.tv_session.specs.declared.build_fault.BuildFault.TheVariants.{NoMemory};
 ghost use Rattle.tv_files.specs.EndsWith.{EndsWith};
+ghost use Rattle.tv_files.specs.Files.{IsTapeOf};
 ghost use Rattle.tv_files.specs.World.{known_world};
 ghost use Rattle.tv_files.specs.declared.no_task.NoTask.{NoTask as WhyNone};
 ghost use Rattle.tv_files.specs.declared.task.Task.{Task as Wanted};
@@ -28,7 +29,7 @@ pub fn run_main<F: FileStore, A: Album, P: Pieces, O: Stream, E: Stream>(
 ) -> u8
     ensures { let known = known_world F.known A.hung P.heard O.seen E.seen in
         (asked : Result Wanted WhyNone) × IsAskedBy words asked
-        × EndsWith (λ _. ⊥) asked (known world.old) (known world.new) result }
+        × EndsWith (λ _. ⊥) (IsTapeOf F.Made.seen F.made_at) asked (known world.old) (known world.new) result }
 {
     match words {
         Ok(words) => {
@@ -47,7 +48,7 @@ fn run_with_boxes<F: FileStore, A: Album, P: Pieces, O: Stream, E: Stream>(
     world: &mut World<F, A, P, O, E>,
 ) -> u8
     ensures { let known = known_world F.known A.hung P.heard O.seen E.seen in
-        EndsWith (λ _. ⊥) asked.entry (known world.old) (known world.new) result }
+        EndsWith (λ _. ⊥) (IsTapeOf F.Made.seen F.made_at) asked.entry (known world.old) (known world.new) result }
 {
     // `refused` says nothing: the tactic proves `same` only where it stands beside another clause.
     let boxed = |alloc: Global, control: Control| -> Result<Box<dyn View>, AllocError>

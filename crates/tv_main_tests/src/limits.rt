@@ -27,7 +27,9 @@ impl<'a> FileStore for Lone<'a> {
 
     type Made = Memory;
 
-    ghost known = { λ _. record { contents = λ _. None; absent = λ _. false; opened = None; made = None } };
+    ghost known = { λ _. record { contents = λ _. None; absent = λ _. false; opened = None; made = None; failures = None } };
+
+    ghost made_at = { λ _ _. ⊥ };
 
     fn open(&mut self, path: &str) -> Result<FileReader<&'a [u8]>, ReadFault> {
         if path == self.path {

@@ -105,7 +105,10 @@ impl<'a> FileStore for Shelf<'a> {
       absent = λ _. false;
       opened = None;
       made = None;
+      failures = None;
     } };
+
+    ghost made_at = { λ _ _. Unit {0} };
 
     fn open(&mut self, path: &str) -> Result<FileReader<Page<'a>>, ReadFault> {
         if path == "FILE" {

@@ -21,4 +21,5 @@ files_of name text name2 text2 = record {
   absent = λ path. is_none (text_at name text name2 text2 path);
   opened = None;
   made = None;
+  failures = None;
 }

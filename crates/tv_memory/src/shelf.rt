@@ -1,7 +1,7 @@
 //! Files in memory.
 
 ghost use Rattle.std.specs.Prelude.{◌≡◌, Err};
-ghost use Rattle.tv_files.specs.Files.{MakesFile};
+ghost use Rattle.tv_files.specs.Files.{MakesAs};
 ghost use Rattle.tv_memory.specs.Shelves.{files_of};
 ghost use Rattle.tv_program.specs.declared.album.AlbumFault.TheVariants.{Write};
 
@@ -41,6 +41,8 @@ impl<'a> FileStore for Shelf<'a> {
 
     ghost known = { λ shelf. files_of shelf.first.name.now shelf.first.text.now shelf.second.name.now shelf.second.text.now };
 
+    ghost made_at = { λ _ _. ⊥ };
+
     fn open(&mut self, path: &str) -> Result<FileReader<&'a [u8]>, ReadFault> {
         let path = path.as_bytes();
         if path.is_empty() {
@@ -56,8 +58,8 @@ impl<'a> FileStore for Shelf<'a> {
 
     // The first clause is that of the trait, which doesn't stand beside one of its own.
     fn make(&mut self, _alloc: Global, _path: &str) -> Result<Gathering, AlbumFault>
-        ensures made { MakesFile (files_of self.old.first.name.now self.old.first.text.now self.old.second.name.now self.old.second.text.now)
-            (files_of self.new.first.name.now self.new.first.text.now self.new.second.name.now self.new.second.text.now) _path.now }
+        ensures made { MakesAs (λ _ _. ⊥) (files_of self.old.first.name.now self.old.first.text.now self.old.second.name.now self.old.second.text.now)
+            (files_of self.new.first.name.now self.new.first.text.now self.new.second.name.now self.new.second.text.now) _path.now result }
         ensures unmade { result ≡ Err Write }
     {
         Err(AlbumFault::Write)

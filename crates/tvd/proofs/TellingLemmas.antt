@@ -1,6 +1,7 @@
 -- From what a call of the program comes to, to what the library tells.
 use Rattle.std.proofs.Common.{◌≡◌, if◌then◌else◌, ℕ, Bool, true, false, not, List, [], Result, Ok, Err, refl, subst}
 use Rattle.std.specs.Prelude.{IsUtf8}
+use Rattle.tv_files.proofs.EndLemmas.{EndsWith-weaker}
 use Rattle.tv_files.specs.EndsWith.{EndsWith}
 use Rattle.tv_files.specs.Files.{Known}
 use Rattle.tv_files.specs.World.{KnownWorld}
@@ -10,6 +11,7 @@ use Rattle.tv_files.specs.declared.task.Task.{Task}
 use Rattle.tv_main.specs.Asking.{IsAskedBy}
 use Rattle.tv_memory.specs.Closed.{album_of, input_of}
 use Rattle.tv_io.specs.Rooms.{Shows}
+use Rattle.tv_io.specs.Writer.{Seen}
 use Rattle.tv_memory.specs.Gathered.{IsShown, gathered}
 use Rattle.tv_memory.specs.Words.{IsBareUsage}
 use Rattle.tv_memory.specs.Shelves.{files_of}
@@ -49,19 +51,20 @@ pub begun-is : {name text name2 text2 n t n2 t2 out err : List ℕ} {album heard
     } ≡ begun (files_of name text name2 text2)
 begun-is a b c d e f g h i j k l = rw (a, b, c, d, e, f, g, h, i, j, k, l) refl
 
-pub Tells-of : {W : Type 0} (words : List ℕ) (files : Known) (read : Result W NoTask) (before after : KnownWorld) (status answer : ℕ)
+pub Tells-of : {W : Type 0} {T : (path : List ℕ) (begun ended : Seen) → Type 0} (words : List ℕ) (files : Known) (read : Result W NoTask) (before after : KnownWorld) (status answer : ℕ)
     {out out_after err err_after : List ℕ} {out_used err_used : ℕ}
     → (¬ (IsUtf8 words) → IsBareUsage read) → before ≡ begun files
-    → ((asked : Result Task NoTask) × IsAskedBy read asked × EndsWith (λ _. ⊥) asked before after status)
+    → ((asked : Result Task NoTask) × IsAskedBy read asked × EndsWith (λ _. ⊥) T asked before after status)
     → answer ≡ answer_of after.err.failures status → IsShown after.out out out_after out_used
-    → IsShown after.err err err_after err_used
+    → IsShown after.err err err_after err_used → ((path : List ℕ) (begun ended : Seen) → T path begun ended → ⊥)
     → Tells words files answer out out_after out_used err err_after err_used
-Tells-of words files read before after status answer usage begins ends answers written told = record {
+Tells-of {T = T} words files read before after status answer usage begins ends answers written told none = record {
   asked = ends.0;
   no_text = λ p. bare read ends.0 ends.1 (usage p);
   after = after;
   status = status;
-  ends = subst (λ (w : KnownWorld). EndsWith (λ _. ⊥) ends.0 w after status) begins ends.2;
+  ends = EndsWith-weaker (λ _. ⊥) (λ _. ⊥) (λ text d sound mismade. mismade) none ends.0 (begun files) after status
+      (subst (λ (w : KnownWorld). EndsWith (λ _. ⊥) T ends.0 w after status) begins ends.2);
   answers = answers;
   written = written;
   told = told;

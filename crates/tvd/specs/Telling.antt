@@ -23,15 +23,15 @@ begun files = record {
 abbrev pub answer_of : (failures status : ℕ) → ℕ
 answer_of failures status = if failures == 0 then status else 3
 
--- What the words ask for, which is tested, is done over the files as the program does it; words that aren't UTF-8 ask for
--- nothing. What was written is shown in the rooms
+-- What the words ask for, which is tested, is done over the files as the program does it, but that no script is recorded; words
+-- that aren't UTF-8 ask for nothing. What was written is shown in the rooms
 pub record Tells (words : List ℕ) (files : Known) (answer : ℕ) (out out_after : List ℕ) (out_used : ℕ)
     (err err_after : List ℕ) (err_used : ℕ) : Type 0 where
   pub asked : Result Task NoTask
   pub no_text : ¬ (IsUtf8 words) → IsBareUsage asked
   pub after : KnownWorld
   pub status : ℕ
-  pub ends : EndsWith (λ _. ⊥) asked (begun files) after status
+  pub ends : EndsWith (λ _. ⊥) (λ _ _ _. ⊥) asked (begun files) after status
   pub answers : answer ≡ answer_of after.err.failures status
   pub written : IsShown after.out out out_after out_used
   pub told : IsShown after.err err err_after err_used

@@ -14,6 +14,7 @@ returns-then-has_failed c =
     (lost (world.err.failures == 0) c.run_main-status.result (sym c.has_failed.ensures ∙ c.if-has_failed.true))
     (shown world.out.bytes.items world.out.failures c.bytes.ensures c.show.ensures)
     (shown world.err.bytes.items world.err.failures c.bytes-2.ensures c.show-2.ensures)
+    (λ path begun ended tape. tape.2)
 
 pub returns : goal.returns
 returns c =
@@ -27,3 +28,4 @@ returns c =
     (kept (world.err.failures == 0) c.run_main-status.result (sym c.has_failed.ensures ∙ c.if-has_failed.false))
     (shown world.out.bytes.items world.out.failures c.bytes.ensures c.show.ensures)
     (shown world.err.bytes.items world.err.failures c.bytes-2.ensures c.show-2.ensures)
+    (λ path begun ended tape. tape.2)
