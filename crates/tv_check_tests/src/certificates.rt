@@ -1,92 +1,12 @@
-//! Certificates: those of sound descriptions, and how they are read and printed.
+//! Certificates as they are read and printed, and the first fault for which a description has none.
 
 use std::alloc::Global;
 use std::test::Fail;
 use tv_test_support::certificates::{
     CANCEL_CERTIFICATE, COLOUR_CERTIFICATE, NO_BLOCKS, ORDER_CERTIFICATE,
 };
-use tv_test_support::descriptions::{
-    CANCEL, CLOSED, COLOUR, HEAD, MENUS, ORDER, SHARED_LETTER, WINDOWS,
-};
-use tv_test_support::{
-    Certifying, PrintingCertificate, Question, expect_answer, expect_answers, expect_rows,
-};
-
-#[test]
-fn certificates(rt: HostRuntime) -> Result<(), Fail> {
-    const ROWS: [(&str, &str); 7] = [
-        (CANCEL, CANCEL_CERTIFICATE),
-        (CLOSED, CANCEL_CERTIFICATE),
-        (ORDER, ORDER_CERTIFICATE),
-        (COLOUR, COLOUR_CERTIFICATE),
-        (WINDOWS, NO_BLOCKS),
-        (MENUS, NO_BLOCKS),
-        (SHARED_LETTER, "faulty F4 line 8\n"),
-    ];
-    expect_rows(&Certifying, rt.alloc(), &ROWS)
-}
-
-// A letter's owner is the control that a label names, wherever it stands; digits come before letters; a text's `~` marks
-// nothing; static texts, labels and panes aren't in the order of Tab.
-const OWNERS: &str = r#"dialog d 2 2 36 11 "" ends ok cancel
-button c 1 1 10 "~z~" cancel
-end
-=> tvcert 1
-=> dialog d
-=> tab c
-=> key Z c
-=> end
-dialog d 2 2 36 11 "" ends ok cancel
-button c 1 1 10 "none" cancel
-end
-=> tvcert 1
-=> dialog d
-=> tab c
-=> end
-dialog d 2 2 36 11 "" ends ok cancel
-label 1 1 4 "~M~" inner
-text 1 2 4 1 "~Q~"
-pane p 1 3 20 2
-list inner 0 0 8 1 "~W~" start 1
-checks k 0 1 8 "~9~" start 1
-end
-label 6 1 4 "~1~" k
-button c 21 3 10 "~0~" cancel
-end
-=> tvcert 1
-=> dialog d
-=> tab inner
-=> tab k
-=> tab c
-=> key 0 c
-=> key 1 k
-=> key 9 k 1
-=> key M inner
-=> end
-window w 1 1 20 5 1 ""
-text 1 1 4 1 "~T~"
-end
-dialog z 2 2 36 11 "" ends ok cancel
-button c 1 1 10 "~A~" cancel
-end
-dialog a 2 2 36 11 "" ends ok cancel
-button c 1 1 10 "~A~" cancel
-end
-=> tvcert 1
-=> dialog z
-=> tab c
-=> key A c
-=> end
-=> dialog a
-=> tab c
-=> key A c
-=> end
-"#;
-
-#[test]
-fn owners(rt: HostRuntime) -> Result<(), Fail> {
-    expect_answers(&Certifying, rt.alloc(), HEAD, OWNERS, "")
-}
+use tv_test_support::descriptions::HEAD;
+use tv_test_support::{Certifying, PrintingCertificate, Question, expect_answer, expect_answers};
 
 // The first fault is that of the least number, and of the least line among these.
 const FAULTY: &str = r#"dialog d 2 2 36 11 "" ends ok cancel
@@ -146,15 +66,42 @@ fn read_and_printed(rt: HostRuntime) -> Result<(), Fail> {
     expect_answers(&PrintingCertificate, rt.alloc(), "", READ, "")
 }
 
+// The certificate of the description with one button, where that is of version 2.
+const CANCEL_CERTIFICATE_TWO: &str = "tvcert 2
+dialog a
+tab c
+key C c
+end
+";
+
+// Key lines of version 2: with an item and without, each with `when` and without, of names that are keywords too. A letter may
+// have several of them.
+const KEYS: &str = "tvcert 2
+dialog a
+tab when
+key 9 when
+key 9 when
+key A c 1
+key A when when when 1
+key A when 1 when key -1
+key B c when r 2147483647
+end
+";
+
 #[test]
 fn canonical_certificates(rt: HostRuntime) -> Result<(), Fail> {
-    const ROWS: [(&str, &str); 4] = [
-        (CANCEL_CERTIFICATE, CANCEL_CERTIFICATE),
-        (ORDER_CERTIFICATE, ORDER_CERTIFICATE),
-        (COLOUR_CERTIFICATE, COLOUR_CERTIFICATE),
-        (NO_BLOCKS, NO_BLOCKS),
-    ];
-    expect_rows(&PrintingCertificate, rt.alloc(), &ROWS)
+    for text in [
+        CANCEL_CERTIFICATE,
+        ORDER_CERTIFICATE,
+        COLOUR_CERTIFICATE,
+        NO_BLOCKS,
+        CANCEL_CERTIFICATE_TWO,
+        "tvcert 2\n",
+        KEYS,
+    ] {
+        expect_answer(&PrintingCertificate, rt.alloc(), text, text)?;
+    }
+    Ok(())
 }
 
 #[test]
@@ -163,149 +110,6 @@ fn last_line_end(rt: HostRuntime) -> Result<(), Fail> {
         .strip_suffix("\n")
         .ok_or("no last line end")?;
     expect_answer(&PrintingCertificate, rt.alloc(), text, ORDER_CERTIFICATE)
-}
-
-const REFUSED: &str = "tvcert 3
-=> syntax at line 1
-tvcert 01
-=> syntax at line 1
-tvcert
-=> syntax at line 1
-tvcert \"1\"
-=> syntax at line 1
-tvcert 1 1
-=> syntax at line 1
-tvd 1
-=> syntax at line 1
-#\t
-tvcert 1
-=> syntax at line 1
-tvcert 1
-tvcert 1
-=> syntax at line 2
-tvcert 1
-end
-=> syntax at line 2
-tvcert 1
-tab a
-=> syntax at line 2
-tvcert 1
-key A a
-=> syntax at line 2
-tvcert 1
-dialog
-=> syntax at line 2
-tvcert 1
-dialog A
-=> syntax at line 2
-tvcert 1
-dialog a
-=> syntax at line 3
-tvcert 1
-dialog a
-end
-=> syntax at line 3
-tvcert 1
-dialog a
-key A a
-=> syntax at line 3
-tvcert 1
-dialog a
-dialog b
-=> syntax at line 3
-tvcert 1
-dialog a
-tab a b
-=> syntax at line 3
-tvcert 1
-dialog a
-tab \"a\"
-=> syntax at line 3
-tvcert 1
-dialog a
-tab a
-=> syntax at line 4
-tvcert 1
-dialog a
-tab a
-key a a
-=> syntax at line 4
-tvcert 1
-dialog a
-tab a
-key AB a
-=> syntax at line 4
-tvcert 1
-dialog a
-tab a
-key - a
-=> syntax at line 4
-tvcert 1
-dialog a
-tab a
-key A
-=> syntax at line 4
-tvcert 1
-dialog a
-tab a
-key A a 01
-=> syntax at line 4
-tvcert 1
-dialog a
-tab a
-key A a 1 2
-=> syntax at line 4
-tvcert 1
-dialog a
-tab a
-key A a when r 1
-=> syntax at line 4
-tvcert 1
-dialog a
-tab a
-key A a
-key A a
-=> syntax at line 5
-tvcert 1
-dialog a
-tab a
-key A a
-key 9 a
-=> syntax at line 5
-tvcert 1
-dialog a
-tab a
-key B a
-key A a
-=> syntax at line 5
-tvcert 1
-dialog a
-tab a
-key A a
-tab b
-=> syntax at line 5
-tvcert 1
-dialog a
-tab a
-end x
-=> syntax at line 4
-tvcert 1
-dialog a
-tab a
-end
-end
-=> syntax at line 5
-";
-
-#[test]
-fn refused_certificates(rt: HostRuntime) -> Result<(), Fail> {
-    expect_answers(&PrintingCertificate, rt.alloc(), "", REFUSED, "")
-}
-
-#[test]
-fn empty_certificates(rt: HostRuntime) -> Result<(), Fail> {
-    const ROWS: [(&str, &str); 2] = [("", "syntax at line 1\n"), ("\n\n", "syntax at line 3\n")];
-    expect_rows(&PrintingCertificate, rt.alloc(), &ROWS)
 }
 
 // A certificate whose second line is a comment of so many characters.
