@@ -117,11 +117,6 @@ fn streams_told(alloc: Global, out: &[u8], err: &[u8], status: u8) -> Result<Str
     Ok(format!(in alloc; "{out}{err}status {status}\n")?)
 }
 
-/// Fails where something else is written and told of a run than this.
-pub fn expect_run(alloc: Global, desc: &str, script: &str, wanted: &str) -> Result<(), Fail> {
-    expect_row(&Call::Run { script }, alloc, desc, wanted)
-}
-
 // What is told of a call: `made`, or its fault.
 fn told<W: Writer>(
     call: &Call<'_>,

@@ -7,8 +7,7 @@ use std::test::Fail;
 use tv_cells::{Cell, HotText, HotTextFault, Point, Screen, ScreenFault};
 use tv_event::{Command, CommandSet, Event, Key, Mask, Options, State};
 use tv_model::{Id, Record, Value};
-use tv_test_support::descriptions::CANCEL;
-use tv_test_support::{Question, expect_finding, expect_rows};
+use tv_test_support::{Question, expect_rows};
 use tv_valid::Text;
 
 #[test]
@@ -240,9 +239,4 @@ fn texts_in_records(rt: HostRuntime) -> Result<(), Fail> {
     put(&rt, &mut record, Id(7), Value::Item(2));
     put(&rt, &mut record, Id(7), Value::Text(text));
     expect_value(rt.alloc(), &record, Id(7), "ab")
-}
-
-#[test]
-fn no_faults(rt: HostRuntime) -> Result<(), Fail> {
-    expect_finding(rt.alloc(), CANCEL, "sound")
 }

@@ -2,8 +2,6 @@
 #![tactic(auto)]
 
 #[cfg(test)]
-mod answering;
-#[cfg(test)]
 mod answers;
 #[cfg(test)]
 mod building;
@@ -15,10 +13,6 @@ mod checks;
 mod constructors;
 #[cfg(test)]
 mod copies;
-#[cfg(test)]
-mod each_fault;
-#[cfg(test)]
-mod filling;
 #[cfg(test)]
 mod makers;
 #[cfg(test)]
@@ -35,8 +29,6 @@ mod runs;
 mod scripts;
 #[cfg(test)]
 mod sessions;
-#[cfg(test)]
-mod sharing;
 #[cfg(test)]
 mod terminal;
 #[cfg(test)]
