@@ -1,36 +1,23 @@
 //! Tests of runs over boxed controls of all seven kinds, made by a loop over the plan of a checked description, and of the
-//! dialogs and groups that such controls stand in; of what a program of one's own draws and is told; and of what runs reach
-//! of a description, and what it is warned of.
+//! dialogs and groups that such controls stand in; and of what a program of one's own draws and is told.
 #![tactic(auto)]
 
 #[cfg(test)]
 mod allocations;
 #[cfg(test)]
-mod answering;
-#[cfg(test)]
 mod asked;
 #[cfg(test)]
 mod bodies;
 #[cfg(test)]
-mod colours;
-#[cfg(test)]
 mod constructors;
 #[cfg(test)]
-mod cuts;
-#[cfg(test)]
 mod dragging;
-#[cfg(test)]
-mod examples;
 #[cfg(test)]
 mod fitting;
 #[cfg(test)]
 mod going_on;
 #[cfg(test)]
-mod idle;
-#[cfg(test)]
 mod large;
-#[cfg(test)]
-mod logs;
 #[cfg(test)]
 mod long_scripts;
 #[cfg(test)]
@@ -52,8 +39,6 @@ mod repainted;
 #[cfg(test)]
 mod running;
 #[cfg(test)]
-mod runs;
-#[cfg(test)]
 mod sheets;
 #[cfg(test)]
 mod stepping;
@@ -66,12 +51,6 @@ mod telling;
 #[cfg(test)]
 mod terminals;
 #[cfg(test)]
-mod toolkit;
-#[cfg(test)]
 mod walks;
-#[cfg(test)]
-mod warnings;
-#[cfg(test)]
-mod ways;
 #[cfg(test)]
 mod writers;

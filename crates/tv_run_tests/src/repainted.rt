@@ -1,6 +1,5 @@
 //! What of the screen an event has painted again.
 
-use crate::logs::TWO_BUTTONS;
 use crate::running::{lines, played};
 use std::alloc::Global;
 use std::test::Fail;
@@ -42,6 +41,16 @@ const CANCEL_ROWS: [Row; 14] = [
 ];
 
 const CANCEL_MOVED: [Corners; 4] = [[2, 2, 16, 6], [4, 3, 18, 7], [3, 4, 17, 8], [5, 5, 19, 9]];
+
+// A button that cancels the dialog, and one below it.
+const TWO_BUTTONS: &str = r#"tvd 1
+screen 20 10
+start a
+dialog a 2 2 14 4 "Q" ends cancel
+button c 2 1 10 "~C~ancel" cancel
+button g 2 2 10 "~G~o" 120
+end
+"#;
 
 const TWO_BUTTONS_ROWS: [Row; 3] = [
     // The focus goes from one to the other.

@@ -5,7 +5,6 @@ use crate::probes::Journal;
 use std::alloc::{AllocError, Global};
 use std::rc::Rc;
 use std::test::Fail;
-use tv_case_texts::Run;
 use tv_check::Checked;
 use tv_io::{FileReader, Reader, Writer};
 use tv_program::{RunFault, run};
@@ -90,20 +89,12 @@ pub fn expect_run(alloc: Global, desc: &str, script: &str, wanted: &str) -> Resu
     }
 }
 
-/// A description of version 1 as one of version 2.
-pub fn in_version_two(alloc: Global, desc: &str) -> Result<Option<String>, AllocError> {
+// A description of version 1 as one of version 2.
+fn in_version_two(alloc: Global, desc: &str) -> Result<Option<String>, AllocError> {
     match desc.strip_prefix("tvd 1\n") {
         Some(rest) => Ok(Some(format!(in alloc; "tvd 2\n{rest}")?)),
         None => Ok(None),
     }
-}
-
-/// Fails where some run writes something else than is wanted.
-pub fn expect_runs(alloc: Global, runs: &[Run]) -> Result<(), Fail> {
-    for run in runs {
-        expect_run(alloc, run.desc, run.script, run.wanted)?;
-    }
-    Ok(())
 }
 
 /// The lines that a text gives with `; ` between them.
@@ -113,14 +104,4 @@ pub fn lines(alloc: Global, text: &str) -> Result<String, AllocError> {
         lines.push('\n')?;
     }
     Ok(lines)
-}
-
-/// The same with runs of one description, whose scripts and logs are given in one line each.
-pub fn expect_logs(alloc: Global, desc: &str, logs: &[(&str, &str)]) -> Result<(), Fail> {
-    for (script, wanted) in logs {
-        let script = lines(alloc, script)?;
-        let wanted = lines(alloc, wanted)?;
-        expect_run(alloc, desc, &script, &wanted)?;
-    }
-    Ok(())
 }
