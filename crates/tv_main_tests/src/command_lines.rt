@@ -2,7 +2,7 @@
 
 use std::alloc::{AllocError, Global};
 use std::test::Fail;
-use tv_main::{NoTask, Task, parse, read_task};
+use tv_main::{NoTask, Task, read_task};
 use tv_test_support::{Question, expect_answer, expect_answers};
 
 fn words(alloc: Global, line: &str) -> Result<Vec<String>, AllocError> {
@@ -13,7 +13,7 @@ fn words(alloc: Global, line: &str) -> Result<Vec<String>, AllocError> {
     Ok(words)
 }
 
-/// What a command line asks for, or what is wrong with it.
+/// What a command line asks for, or the text that is told instead.
 #[derive(Clone, Copy)]
 struct Meaning;
 
@@ -21,17 +21,15 @@ impl Question for Meaning {
     fn answer(&self, alloc: Global, text: &[u8]) -> Result<String, Fail> {
         let line = str::from_utf8(text)?.trim_end();
         let words = words(alloc, line)?;
-        Ok(task_or_fault(alloc, words.as_slice())?)
+        task_or_kind(alloc, words.as_slice())
     }
 }
 
-fn task_or_fault(alloc: Global, words: &[String]) -> Result<String, AllocError> {
-    match parse(alloc, words) {
-        Ok(task) => task_told(alloc, task),
-        Err(error) => match read_task(alloc, words) {
-            Ok(task) => task_told(alloc, task),
-            Err(_) => format!(in alloc; "{:?}\n", error.kind()),
-        },
+fn task_or_kind(alloc: Global, words: &[String]) -> Result<String, Fail> {
+    match read_task(alloc, words) {
+        Ok(task) => Ok(task_told(alloc, task)?),
+        Err(NoTask::Usage(text)) => Ok(text),
+        Err(NoTask::NoMemory) => Err("no memory".into()),
     }
 }
 
@@ -158,124 +156,12 @@ fn command_lines(rt: HostRuntime) -> Result<(), Fail> {
     expect_answers(&Meaning, rt.alloc(), "", LINES, "")
 }
 
-const FAULTY_LINES: &str = "tvdlg
-=> MissingSubcommand
-tvdlg paint a.tvd
-=> InvalidSubcommand
-tvdlg check
-=> MissingRequiredArgument
-tvdlg accept a.tvd
-=> MissingRequiredArgument
-tvdlg run a.tvd
-=> MissingRequiredArgument
-tvdlg picture a.tvd
-=> MissingRequiredArgument
-tvdlg picture --all a.tvd
-=> MissingRequiredArgument
-tvdlg fill a.tvd
-=> MissingRequiredArgument
-tvdlg answer a.tvd
-=> MissingRequiredArgument
-tvdlg box
-=> MissingRequiredArgument
-tvdlg box --help
-=> DisplayHelp
-tvdlg fill a.tvd a.log b.log
-=> UnknownArgument
-tvdlg run --all a.tvd a.tvs
-=> UnknownArgument
-tvdlg check a.tvd b.tvd
-=> UnknownArgument
-tvdlg check -a.tvd
-=> UnknownArgument
-tvdlg check --fast a.tvd
-=> UnknownArgument
-tvdlg check --json a.tvd
-=> UnknownArgument
-tvdlg explain --color=red a.tvd
-=> InvalidValue
-tvdlg explain --json
-=> MissingRequiredArgument
-tvdlg explain a.tvd a.tvs a.cert
-=> UnknownArgument
-tvdlg ways
-=> MissingRequiredArgument
-tvdlg ways a.tvd d
-=> MissingRequiredArgument
-tvdlg ways a.tvd d help
-=> InvalidValue
-tvdlg ways a.tvd d ok ok
-=> UnknownArgument
-tvdlg warn
-=> MissingRequiredArgument
-tvdlg check --deny a.tvd
-=> UnknownArgument
+const USAGE: &str = "
+
+Usage: tvdlg check <FILE>
+
+For more information, try '--help'.
 ";
-
-#[test]
-fn faulty_command_lines(rt: HostRuntime) -> Result<(), Fail> {
-    expect_answers(&Meaning, rt.alloc(), "", FAULTY_LINES, "")
-}
-
-/// Whether the text that a command line without a task shows has a part: a row is the command line, and the part.
-#[derive(Clone, Copy)]
-struct Showing;
-
-impl Question for Showing {
-    fn answer(&self, alloc: Global, text: &[u8]) -> Result<String, Fail> {
-        let (line, part) = str::from_utf8(text)?.split_once("\n").ok_or("no part")?;
-        let shown = shown(alloc, line)?;
-        if shown.contains(part.trim_end()) {
-            return Ok(String::from_str(alloc, "shown\n")?);
-        }
-        Ok(shown)
-    }
-}
-
-/// The text that a command line without a task shows: its help, or what is wrong with it.
-pub fn shown(alloc: Global, line: &str) -> Result<String, Fail> {
-    let words = words(alloc, line)?;
-    usage(alloc, words.as_slice())
-}
-
-fn usage(alloc: Global, words: &[String]) -> Result<String, Fail> {
-    match read_task(alloc, words) {
-        Err(NoTask::Usage(text)) => Ok(text),
-        Err(NoTask::NoMemory) => Err("no memory".into()),
-        Ok(_) => Err("a task".into()),
-    }
-}
-
-const HELP: &str = "tvdlg --help
-Checks descriptions of text-mode dialogs
-=> shown
-tvdlg --help
-Statuses: 0 done
-=> shown
-tvdlg check --help
-A description of windows and dialogs
-=> shown
-tvdlg check --help
-Statuses: 0 done
-=> shown
-tvdlg accept --help
-A certificate, as `check` prints it
-=> shown
-tvdlg run --help
-A script, with an event or a picture on each line
-=> shown
-tvdlg
-Usage: tvdlg
-=> shown
-tvdlg accept a.tvd
-<CERT>
-=> shown
-";
-
-#[test]
-fn help_teaches(rt: HostRuntime) -> Result<(), Fail> {
-    expect_answers(&Showing, rt.alloc(), "", HELP, "")
-}
 
 // Where there is memory, nothing is refused for the want of it.
 #[test]
@@ -285,6 +171,7 @@ fn long_words(rt: HostRuntime) -> Result<(), Fail> {
     let line = format!(in alloc; "tvdlg accept {path}a {path}b\n")?;
     let task = format!(in alloc; "accepts {path}a with {path}b\n")?;
     expect_answer(&Meaning, alloc, &line, &task)?;
-    let line = format!(in alloc; "tvdlg check a {path}\n{path}\n")?;
-    expect_answer(&Showing, alloc, &line, "shown\n")
+    let line = format!(in alloc; "tvdlg check a {path}\n")?;
+    let usage = format!(in alloc; "error: unexpected argument '{path}' found{USAGE}")?;
+    expect_answer(&Meaning, alloc, &line, &usage)
 }

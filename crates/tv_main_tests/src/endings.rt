@@ -6,10 +6,12 @@ use crate::sink::Sink;
 use crate::user::User;
 use std::alloc::{AllocError, Global};
 use std::test::Fail;
-use tv_files::{BufferedStream, Colours, NoTask, Stream, Task, World, run_program};
+use tv_files::{
+    BufferedStream, Colours, Command, Manner, NoTask, Stream, Task, Wanted, World, run_program,
+};
 use tv_test_support::button_views::buttons;
 use tv_test_support::certificates::CANCEL_CERTIFICATE;
-use tv_test_support::descriptions::{CANCEL, ORDER, SHARED_LETTER, WITHOUT_CANCEL};
+use tv_test_support::descriptions::{CANCEL, ORDER, SHARED_LETTER};
 
 const FILE: &str = Shelf::DESCRIPTION;
 
@@ -34,6 +36,38 @@ pub const RUN: Task<'static> = Task::Run {
 pub const FILL: Task<'static> = Task::Fill {
     file: FILE,
     answers: BESIDE,
+};
+
+/// The dialogs of a description, given the ends that the file beside it answers.
+pub const ANSWER: Task<'static> = Task::Answer {
+    file: FILE,
+    answers: BESIDE,
+};
+
+/// A description whose faults are explained, or those of the file beside it.
+const EXPLAIN_BOTH: Task<'static> = Task::ExplainBoth {
+    file: FILE,
+    beside: BESIDE,
+    manner: Manner::Plain,
+};
+
+/// The ways of a description.
+pub const WAYS: Task<'static> = Task::Ways { file: FILE };
+
+/// The way to the end of its dialog by `cancel`.
+pub const WAY: Task<'static> = Task::Way {
+    file: FILE,
+    wanted: Wanted {
+        dialog: "a",
+        end: Command::CANCEL,
+    },
+};
+
+/// Its warnings, which are denied.
+pub const WARN: Task<'static> = Task::Warn {
+    file: FILE,
+    manner: Manner::Plain,
+    denies: true,
 };
 
 /// The screen at each `shot` of the file beside the description.
@@ -78,19 +112,6 @@ pub fn expect_room_endings(alloc: Global, endings: &[RoomEnding<'_>]) -> Result<
     Ok(())
 }
 
-/// A task, the description, the file beside it, which of the two breaks off at its end, and what is told.
-pub type TornEnding<'a> = (Task<'a>, &'a str, &'a str, &'a str, &'a str);
-
-/// Fails where one of these tasks with ample room comes to something else.
-pub fn expect_torn_endings(alloc: Global, endings: &[TornEnding<'_>]) -> Result<(), Fail> {
-    for (task, description, beside, path, wanted) in endings {
-        let files = Shelf::torn(description, beside, path);
-        let told = ending_of(alloc, Ok(*task), files, User::silent(), (AMPLE, AMPLE))?;
-        expect_told(&told, wanted)?;
-    }
-    Ok(())
-}
-
 /// Fails where something else is told than is wanted.
 pub fn expect_told(told: &str, wanted: &str) -> Result<(), Fail> {
     if told == wanted {
@@ -99,13 +120,13 @@ pub fn expect_told(told: &str, wanted: &str) -> Result<(), Fail> {
     Err(Fail::new(format_args!("told:\n{told}wanted:\n{wanted}")))
 }
 
-/// What a task with ample room comes to, about these texts: what stands on standard output, then what stands on standard
-/// error, then the status, then what was opened.
-pub fn ample_ending(alloc: Global, task: Task<'_>, texts: (&str, &str)) -> Result<String, Fail> {
+// The same as `ending`, with ample room.
+fn ample_ending(alloc: Global, task: Task<'_>, texts: (&str, &str)) -> Result<String, Fail> {
     ending(alloc, Ok(task), texts, AMPLE, AMPLE)
 }
 
-/// The same, with this room, or where nothing can be done.
+/// What a task with this room comes to, about these texts, or what comes where nothing can be done: what stands on standard
+/// output, then what stands on standard error, then the status, then what was opened.
 pub fn ending(
     alloc: Global,
     asked: Result<Task<'_>, NoTask>,
@@ -186,38 +207,34 @@ fn status_in<O: Stream, E: Stream>(
     (status, world.files.opened())
 }
 
-/// The order form's certificate with two lines exchanged.
-pub const EXCHANGED: &str = "tvcert 1
-dialog b
-tab opts
-tab amount
-tab qty
-tab ok
-tab no
-tab log
-key A amount
-key C no
-key G opts 1
-key L log
-key N opts 2
-key O ok
-end
-";
+/// A form, for answers.
+pub const FORM: &str = r#"tvd 1
+screen 40 12
 
-const TASKS: [Ending<'static>; 19] = [
-    (
-        CHECK,
-        CANCEL,
-        "",
-        "tvcert 1\ndialog a\ntab c\nkey C c\nend\nstatus 0\nopened 1\n",
-    ),
-    (CHECK, SHARED_LETTER, "", "F4 line 8\nstatus 1\nopened 1\n"),
-    (
-        CHECK,
-        "tvd 1\n",
-        "",
-        "tvdlg: FILE: syntax at line 2\nstatus 1\nopened 1\n",
-    ),
+# how to reach it
+dialog form 1 1 30 8 "Form" opens 100 ends ok cancel
+input port 1 1 8 5 range 1 65535 "80"
+button ok 1 5 8 "OK" ok
+button no 12 5 8 "No" cancel
+end
+"#;
+
+/// Two questions of buttons alone, since these views are buttons.
+pub const QUESTIONS: &str = r#"tvd 1
+screen 40 12
+dialog first 1 1 30 8 "First" ends ok cancel
+button ok 1 5 8 "OK" ok
+button no 12 5 8 "No" cancel
+end
+dialog second 1 1 30 8 "Second" ends cancel yes no
+button yes 1 5 8 "Yes" yes
+button no 12 5 8 "No" no
+end
+"#;
+
+// What each task opens: one that can't go on with the description leaves the file beside it closed, but for a script. Views
+// that are refused are told before a faulty line of the script. For `FULL` there is no memory.
+const OPENED: [Ending<'static>; 27] = [
     (
         CHECK,
         "tvd 3\n",
@@ -232,45 +249,15 @@ const TASKS: [Ending<'static>; 19] = [
     ),
     (
         ACCEPT,
-        ORDER,
-        EXCHANGED,
-        "refused tab 1\nstatus 1\nopened 12\n",
-    ),
-    (
-        ACCEPT,
-        CANCEL,
-        "tvcert 3\n",
-        "tvdlg: BESIDE: syntax at line 1\nstatus 1\nopened 12\n",
-    ),
-    (
-        ACCEPT,
-        CANCEL,
-        "tvcert 2\n",
-        "refused version\nstatus 1\nopened 12\n",
-    ),
-    (
-        ACCEPT,
         "tvd 1\n",
         "tvcert 2\n",
         "tvdlg: FILE: syntax at line 2\nstatus 1\nopened 1\n",
     ),
     (
         RUN,
-        CANCEL,
-        "key Tab\nkey Esc\n",
-        "open a\nfocus c\nend a cancel\nstatus 0\nopened 12\n",
-    ),
-    (
-        RUN,
-        CANCEL,
-        "key Tab\nkey Foo\nkey Esc\n",
-        "open a\nfocus c\ntvdlg: BESIDE: syntax at line 2\nstatus 1\nopened 12\n",
-    ),
-    (
-        RUN,
-        WITHOUT_CANCEL,
+        "tvd 1\n",
         "key Foo\n",
-        "F10 line 4\nstatus 1\nopened 12\n",
+        "tvdlg: FILE: syntax at line 2\nstatus 1\nopened 12\n",
     ),
     (
         RUN,
@@ -284,41 +271,7 @@ const TASKS: [Ending<'static>; 19] = [
         "key Esc\n",
         "tvdlg: view refused\nstatus 1\nopened 12\n",
     ),
-    (
-        RUN,
-        "tvd 1\n",
-        "key Foo\n",
-        "tvdlg: FILE: syntax at line 2\nstatus 1\nopened 12\n",
-    ),
-    (PLAY, SHARED_LETTER, "", "F4 line 8\nstatus 1\nopened 1\n"),
     (PLAY, ORDER, "", "tvdlg: view refused\nstatus 1\nopened 1\n"),
-    (
-        PLAY,
-        "tvd 1\n",
-        "",
-        "tvdlg: FILE: syntax at line 2\nstatus 1\nopened 1\n",
-    ),
-    (Task::Version, "", "", "tvdlg 1.0.0\nstatus 0\nopened 0\n"),
-];
-
-#[test]
-fn tasks_and_their_faults(rt: HostRuntime) -> Result<(), Fail> {
-    expect_endings(rt.alloc(), &TASKS)
-}
-
-const NO_DESCRIPTION: Task<'static> = Task::Check { file: "NONE" };
-
-const NO_CERTIFICATE: Task<'static> = Task::Accept {
-    file: FILE,
-    certificate: "NONE",
-};
-
-const NO_SCRIPT: Task<'static> = Task::Run {
-    file: FILE,
-    script: "NONE",
-};
-
-const MISSING: [Ending<'static>; 13] = [
     (
         Task::Record {
             file: FILE,
@@ -330,15 +283,59 @@ const MISSING: [Ending<'static>; 13] = [
         "tvdlg: cannot write NONE\nstatus 3\nopened 1\n",
     ),
     (
-        Task::Record {
+        Task::Picture {
             file: FILE,
-            script: "NONE",
-            colours: Colours::Sixteen,
+            script: BESIDE,
         },
-        "tvd 1\n",
+        ORDER,
         "",
-        "tvdlg: FILE: syntax at line 2\nstatus 1\nopened 1\n",
+        "tvdlg: view refused\nstatus 1\nopened 12\n",
     ),
+    (
+        PICTURE_ALL,
+        ORDER,
+        "shot\n",
+        "tvdlg: view refused\nstatus 1\nopened 12\n",
+    ),
+    (
+        FILL,
+        FORM,
+        "field port \"1\"\n",
+        "tvdlg: BESIDE: syntax at line 1\nstatus 1\nopened 12\n",
+    ),
+    (FILL, SHARED_LETTER, "", "F4 line 8\nstatus 1\nopened 1\n"),
+    (
+        ANSWER,
+        QUESTIONS,
+        "",
+        "tvdlg: BESIDE: no answers\nstatus 1\nopened 12\n",
+    ),
+    (ANSWER, SHARED_LETTER, "", "F4 line 8\nstatus 1\nopened 1\n"),
+    (
+        Task::Explain {
+            file: FILE,
+            manner: Manner::Plain,
+        },
+        CANCEL,
+        "",
+        "status 0\nopened 1\n",
+    ),
+    (
+        EXPLAIN_BOTH,
+        CANCEL,
+        "key Tab\nkey Esc\n",
+        "status 0\nopened 12\n",
+    ),
+    (EXPLAIN_BOTH, "tvd 3\n", "", VERSION_EXPLAINED),
+    (
+        WAYS,
+        CANCEL,
+        "",
+        "dialog a\nend cancel: key Esc\nfocus c: at the start\nstatus 0\nopened 1\n",
+    ),
+    (WAY, CANCEL, "", "key Esc\nstatus 0\nopened 1\n"),
+    (WARN, CANCEL, "", "status 0\nopened 1\n"),
+    (Task::Version, "", "", "tvdlg 1.0.0\nstatus 0\nopened 0\n"),
     (
         Task::Check { file: "FULL" },
         CANCEL,
@@ -373,59 +370,44 @@ const MISSING: [Ending<'static>; 13] = [
         "tvdlg: no memory\nstatus 3\nopened 14\n",
     ),
     (
-        NO_DESCRIPTION,
-        CANCEL,
-        "",
-        "tvdlg: cannot read NONE\nstatus 3\nopened 3\n",
-    ),
-    (
-        Task::Play {
-            file: "NONE",
-            colours: Colours::Sixteen,
+        Task::Fill {
+            file: FILE,
+            answers: "FULL",
         },
-        CANCEL,
+        FORM,
         "",
-        "tvdlg: cannot read NONE\nstatus 3\nopened 3\n",
+        "tvdlg: no memory\nstatus 3\nopened 14\n",
     ),
     (
-        NO_CERTIFICATE,
-        CANCEL,
+        Task::Answer {
+            file: FILE,
+            answers: "FULL",
+        },
+        QUESTIONS,
         "",
-        "tvdlg: cannot read NONE\nstatus 3\nopened 13\n",
-    ),
-    (
-        NO_CERTIFICATE,
-        SHARED_LETTER,
-        "",
-        "tvdlg: cannot read NONE\nstatus 3\nopened 13\n",
-    ),
-    (
-        NO_CERTIFICATE,
-        "tvd 1\n",
-        "",
-        "tvdlg: FILE: syntax at line 2\nstatus 1\nopened 1\n",
-    ),
-    (
-        NO_SCRIPT,
-        CANCEL,
-        "",
-        "tvdlg: cannot read NONE\nstatus 3\nopened 13\n",
-    ),
-    (
-        NO_SCRIPT,
-        WITHOUT_CANCEL,
-        "",
-        "tvdlg: cannot read NONE\nstatus 3\nopened 13\n",
+        "tvdlg: no memory\nstatus 3\nopened 14\n",
     ),
 ];
 
+const VERSION_EXPLAINED: &str = "FILE:1:5: version: the language has no version 3
+  |
+1 | tvd 3
+  |     ^ the versions are 1 and 2
+  = mend: write `tvd 1` or `tvd 2`
+status 1
+opened 1
+";
+
 #[test]
-fn missing_files(rt: HostRuntime) -> Result<(), Fail> {
-    expect_endings(rt.alloc(), &MISSING)
+fn opened_files(rt: HostRuntime) -> Result<(), Fail> {
+    expect_endings(rt.alloc(), &OPENED)
 }
 
+/// A task, the description, the file beside it, which of the two breaks off at its end, and what is told.
+type TornEnding<'a> = (Task<'a>, &'a str, &'a str, &'a str, &'a str);
+
 // What the lines before wrote of a script that breaks off was written, and the line that has no end isn't performed.
-const TORN: [TornEnding<'static>; 7] = [
+const TORN: [TornEnding<'static>; 10] = [
     (
         CHECK,
         CANCEL,
@@ -475,16 +457,43 @@ const TORN: [TornEnding<'static>; 7] = [
         BESIDE,
         "open a\nfocus c\ntvdlg: BESIDE: syntax at line 1\nstatus 1\nopened 12\n",
     ),
+    (
+        PICTURE_ALL,
+        CANCEL,
+        "shot\n",
+        BESIDE,
+        "tvdlg: cannot read BESIDE\nstatus 3\nopened 12\n",
+    ),
+    (
+        FILL,
+        FORM,
+        "end form ok\n",
+        BESIDE,
+        "tvdlg: cannot read BESIDE\nstatus 3\nopened 12\n",
+    ),
+    (
+        ANSWER,
+        QUESTIONS,
+        "end first ok\n",
+        BESIDE,
+        "tvdlg: cannot read BESIDE\nstatus 3\nopened 12\n",
+    ),
 ];
 
 #[test]
 fn files_that_break_off(rt: HostRuntime) -> Result<(), Fail> {
-    expect_torn_endings(rt.alloc(), &TORN)
+    let alloc = rt.alloc();
+    for (task, description, beside, path, wanted) in &TORN {
+        let files = Shelf::torn(description, beside, path);
+        let told = ending_of(alloc, Ok(*task), files, User::silent(), (AMPLE, AMPLE))?;
+        expect_told(&told, wanted)?;
+    }
+    Ok(())
 }
 
-/// Fails where texts that are too long aren't told as such, or others are: whether these are, of tasks with ample room, and what
-/// is told then.
-pub fn expect_bound(alloc: Global, are_too_long: bool, endings: &[Ending<'_>]) -> Result<(), Fail> {
+// Fails where texts that are too long aren't told as such, or others are: whether these are, of tasks with ample room, and what
+// is told then.
+fn expect_bound(alloc: Global, are_too_long: bool, endings: &[Ending<'_>]) -> Result<(), Fail> {
     for (task, description, beside, message) in endings {
         let told = ample_ending(alloc, *task, (*description, *beside))?;
         if (told.as_str() == *message) != are_too_long {
@@ -494,7 +503,7 @@ pub fn expect_bound(alloc: Global, are_too_long: bool, endings: &[Ending<'_>]) -
     Ok(())
 }
 
-// Texts of comments, so many bytes past what each may have.
+// Texts of comments, so many bytes past what each may have. Of a script that is explained no more is read than of a description.
 #[test]
 fn long_texts(rt: HostRuntime) -> Result<(), Fail> {
     const TOO_LONG: &str = "tvdlg: BESIDE: too long\nstatus 1\nopened 12\n";
@@ -502,7 +511,9 @@ fn long_texts(rt: HostRuntime) -> Result<(), Fail> {
     for (past, are_too_long) in [(0, false), (1, true), (50_000, true)] {
         let long = "#".repeat(alloc, 262_144 + past)?;
         let script = "#".repeat(alloc, 1_048_576 + past)?;
-        let endings: [Ending<'_>; 4] = [
+        let comment = "#".repeat(alloc, 262_135 + past)?;
+        let certificate = format!(in alloc; "tvcert 1\n{comment}")?;
+        let endings: [Ending<'_>; 6] = [
             (
                 CHECK,
                 long.as_str(),
@@ -517,6 +528,8 @@ fn long_texts(rt: HostRuntime) -> Result<(), Fail> {
                 "open a\nfocus c\ntvdlg: BESIDE: too long\nstatus 1\nopened 12\n",
             ),
             (FILL, CANCEL, script.as_str(), TOO_LONG),
+            (EXPLAIN_BOTH, CANCEL, long.as_str(), TOO_LONG),
+            (EXPLAIN_BOTH, CANCEL, certificate.as_str(), TOO_LONG),
         ];
         expect_bound(alloc, are_too_long, &endings)?;
     }

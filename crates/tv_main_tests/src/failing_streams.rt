@@ -1,7 +1,8 @@
 //! How the program ends where a stream fails, or where there is nothing to do.
 
 use crate::endings::{
-    AMPLE, CHECK, RUN, Room, RoomEnding, ending, expect_room_endings, expect_told, status,
+    AMPLE, ANSWER, CHECK, FILL, FORM, QUESTIONS, RUN, Room, RoomEnding, WARN, WAY, WAYS, ending,
+    expect_room_endings, expect_told, status,
 };
 use crate::shelf::Shelf;
 use crate::sink::Sink;
@@ -9,7 +10,7 @@ use crate::user::User;
 use std::alloc::Global;
 use std::test::Fail;
 use tv_files::{DirectStream, NoTask, tell_no_memory};
-use tv_test_support::descriptions::{CANCEL, SHARED_LETTER};
+use tv_test_support::descriptions::{CANCEL, CLOSED, SHARED_LETTER};
 
 // A certificate that was taken, but not flushed.
 const UNFLUSHED: &str = "tvcert 1
@@ -22,7 +23,19 @@ status 3
 opened 1
 ";
 
-const FAILING: [RoomEnding<'static>; 11] = [
+// A form that was filled, of which a message isn't told.
+const FILLED: &str = r#"tvd 1
+screen 40 12
+dialog form 1 1 30 8 "Form" opens 100 ends ok cancel
+input port 1 1 8 5 range 1 65535 "80"
+button ok 1 5 8 "OK" ok
+button no 12 5 8 "No" cancel
+end
+status 0
+opened 12
+"#;
+
+const FAILING: [RoomEnding<'static>; 23] = [
     (
         CHECK,
         (CANCEL, ""),
@@ -84,15 +97,7 @@ const FAILING: [RoomEnding<'static>; 11] = [
         (AMPLE, (1000, false)),
         "tvdlg: FILE: unknown version\nstatus 1\nopened 1\n",
     ),
-];
-
-#[test]
-fn streams_that_fail(rt: HostRuntime) -> Result<(), Fail> {
-    expect_room_endings(rt.alloc(), &FAILING)
-}
-
-// The first that failed is told, alone. The log of the start has 15 bytes.
-const FAILING_RUNS: [RoomEnding<'static>; 4] = [
+    // Of a run the first that failed is told, alone. The log of the start has 15 bytes.
     (
         RUN,
         (CANCEL, "key Foo\n"),
@@ -117,11 +122,55 @@ const FAILING_RUNS: [RoomEnding<'static>; 4] = [
         ((15, true), AMPLE),
         "open a\nfocus c\ntvdlg: BESIDE: syntax at line 1\nstatus 1\nopened 12\n",
     ),
+    // An answer that doesn't fit.
+    (
+        FILL,
+        (FORM, "end x ok\n"),
+        ((6, true), AMPLE),
+        "tvd 1\ntvdlg: BESIDE: no dialog x at line 1\ntvdlg: cannot write\nstatus 3\nopened 12\n",
+    ),
+    (
+        FILL,
+        (FORM, "end x ok\n"),
+        ((6, true), (9, true)),
+        "tvd 1\ntvdlg: BEstatus 3\nopened 12\n",
+    ),
+    (FILL, (FORM, "end x ok\n"), (AMPLE, (0, true)), FILLED),
+    (
+        ANSWER,
+        (QUESTIONS, "end first ok\n"),
+        ((6, true), AMPLE),
+        "open ftvdlg: cannot write\nstatus 3\nopened 12\n",
+    ),
+    (
+        WAYS,
+        (CANCEL, ""),
+        ((12, true), AMPLE),
+        "dialog a\nendtvdlg: cannot write\nstatus 3\nopened 1\n",
+    ),
+    (
+        WAYS,
+        (SHARED_LETTER, ""),
+        ((6, true), AMPLE),
+        "FILE:8tvdlg: cannot write\nstatus 3\nopened 1\n",
+    ),
+    (
+        WAY,
+        (CANCEL, ""),
+        ((2, true), AMPLE),
+        "ketvdlg: cannot write\nstatus 3\nopened 1\n",
+    ),
+    (
+        WARN,
+        (CLOSED, ""),
+        ((6, true), AMPLE),
+        "FILE:3tvdlg: cannot write\nstatus 3\nopened 1\n",
+    ),
 ];
 
 #[test]
-fn runs_whose_output_fails(rt: HostRuntime) -> Result<(), Fail> {
-    expect_room_endings(rt.alloc(), &FAILING_RUNS)
+fn streams_that_fail(rt: HostRuntime) -> Result<(), Fail> {
+    expect_room_endings(rt.alloc(), &FAILING)
 }
 
 // More than is kept back, so that the stream fails while the script is performed.

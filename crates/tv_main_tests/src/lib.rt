@@ -2,8 +2,6 @@
 #![tactic(auto)]
 
 #[cfg(test)]
-mod answering;
-#[cfg(test)]
 mod applications;
 #[cfg(test)]
 mod at_limits;
@@ -14,15 +12,9 @@ mod counting;
 #[cfg(test)]
 mod endings;
 #[cfg(test)]
-mod explaining;
-#[cfg(test)]
 mod failing_streams;
 #[cfg(test)]
-mod filling;
-#[cfg(test)]
 mod gallery;
-#[cfg(test)]
-mod help;
 #[cfg(test)]
 mod limits;
 #[cfg(test)]
@@ -45,7 +37,3 @@ mod system_files;
 mod user;
 #[cfg(test)]
 mod waits;
-#[cfg(test)]
-mod warnings;
-#[cfg(test)]
-mod ways;

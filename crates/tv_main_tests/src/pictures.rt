@@ -1,21 +1,15 @@
-//! Pictures: the screen that a script leaves, and those at its shots, drawn by the program over files in memory.
+//! Pictures at the shots of a script, drawn by the program over files in memory.
 
-use crate::endings::{Ending, PICTURE_ALL, expect_endings, expect_told};
+use crate::endings::{PICTURE_ALL, expect_told};
 use crate::gallery::Gallery;
 use crate::shelf::Shelf;
 use crate::sink::Sink;
 use crate::user::User;
 use std::alloc::Global;
 use std::test::Fail;
-use tv_files::{DirectStream, Stream, Task, World, run_program};
+use tv_files::{DirectStream, Stream, World, run_program};
 use tv_test_support::button_views::buttons;
-use tv_test_support::descriptions::{CANCEL, ORDER, SHARED_LETTER};
-
-/// The screen of the description, after the script beside it.
-const PICTURE: Task<'static> = Task::Picture {
-    file: Shelf::DESCRIPTION,
-    script: Shelf::BESIDE,
-};
+use tv_test_support::descriptions::CANCEL;
 
 // The dialog of one button, its button focused. The characters and attributes are those that `run` shows.
 const FOCUSED: &str =
@@ -81,37 +75,7 @@ const FOCUSED: &str =
 <text x="0" y="175" textLength="200" fill="#0000aa" lengthAdjust="spacingAndGlyphs">....................</text>
 <rect x="0" y="180" width="200" height="20" fill="#aaaaaa"/>
 </svg>
-status 0
-opened 12
 "##;
-
-const ENDINGS: [Ending<'static>; 5] = [
-    (PICTURE, CANCEL, "key Tab\n", FOCUSED),
-    (PICTURE, CANCEL, "shot\nkey Tab\ncolors\n", FOCUSED),
-    (
-        PICTURE,
-        CANCEL,
-        "key Tab\nkey Foo\n",
-        "tvdlg: BESIDE: syntax at line 2\nstatus 1\nopened 12\n",
-    ),
-    (
-        PICTURE,
-        ORDER,
-        "",
-        "tvdlg: view refused\nstatus 1\nopened 12\n",
-    ),
-    (
-        PICTURE,
-        SHARED_LETTER,
-        "",
-        "F4 line 8\nstatus 1\nopened 12\n",
-    ),
-];
-
-#[test]
-fn pictures(rt: HostRuntime) -> Result<(), Fail> {
-    expect_endings(rt.alloc(), &ENDINGS)
-}
 
 // The desktop alone, once the dialog is ended.
 const EMPTY: &str =
@@ -140,12 +104,13 @@ const EMPTY: &str =
 </svg>
 "##;
 
-// What drawing each shot comes to, with files in memory and room for so many pictures: what hangs there, then what stands on
-// standard output and on standard error, then the status and what was opened.
-fn all_drawn(alloc: Global, task: Task<'_>, files: Shelf<'_>, room: usize) -> Result<String, Fail> {
+// What drawing each shot of a script comes to, with files in memory and room for so many pictures: what hangs there, then what
+// stands on standard output and on standard error, then the status and what was opened.
+fn drawn(alloc: Global, script: &str, room: usize) -> Result<String, Fail> {
+    let files = Shelf::new(CANCEL, script);
     let mut out = Sink::new(alloc, 10_000, true);
     let mut err = Sink::new(alloc, 10_000, true);
-    let (shown, ended) = drawn_on(alloc, task, files, room, &mut out, &mut err)?;
+    let (shown, ended) = drawn_on(alloc, files, room, &mut out, &mut err)?;
     let text = str::from_utf8(out.taken())?;
     let message = str::from_utf8(err.taken())?;
     Ok(format!(in alloc; "{shown}{text}{message}{ended}")?)
@@ -154,7 +119,6 @@ fn all_drawn(alloc: Global, task: Task<'_>, files: Shelf<'_>, room: usize) -> Re
 // What hangs there with these for both streams, and then the status and what was opened.
 fn drawn_on(
     alloc: Global,
-    task: Task<'_>,
     files: Shelf<'_>,
     room: usize,
     out: &mut Sink,
@@ -167,99 +131,31 @@ fn drawn_on(
         out: DirectStream::new(out),
         err: DirectStream::new(err),
     };
-    drawn_in(alloc, task, &mut world)
+    drawn_in(alloc, &mut world)
 }
 
 // The same in a world.
 fn drawn_in<O: Stream, E: Stream>(
     alloc: Global,
-    task: Task<'_>,
     world: &mut World<Shelf<'_>, Gallery, User<'_>, O, E>,
 ) -> Result<(String, String), Fail> {
-    let status = run_program(alloc, Ok(task), &buttons, world);
+    let status = run_program(alloc, Ok(PICTURE_ALL), &buttons, world);
     let opened = world.files.opened();
     let ended = format!(in alloc; "status {status}\nopened {opened}\n")?;
     Ok((world.album.shown()?, ended))
 }
 
-// The same of a script beside a description, with room for so many pictures.
-fn drawn(alloc: Global, texts: (&str, &str), room: usize) -> Result<String, Fail> {
-    let files = Shelf::new(texts.0, texts.1);
-    all_drawn(alloc, PICTURE_ALL, files, room)
-}
-
-fn expect_drawn(alloc: Global, script: &str, room: usize, wanted: &str) -> Result<(), Fail> {
-    let found = drawn(alloc, (CANCEL, script), room)?;
-    expect_told(&found, wanted)
-}
-
 #[test]
 fn each_shot_is_drawn(rt: HostRuntime) -> Result<(), Fail> {
     let alloc = rt.alloc();
-    let focused = FOCUSED
-        .strip_suffix("status 0\nopened 12\n")
-        .ok_or("no picture")?;
+    let found = drawn(alloc, "shot\ncolors\nkey Esc\nshot\n", 9)?;
     let wanted = format!(in alloc;
-        "BESIDE-1.svg\n{focused}BESIDE-2.svg\n{EMPTY}status 0\nopened 12\n"
+        "BESIDE-1.svg\n{FOCUSED}BESIDE-2.svg\n{EMPTY}status 0\nopened 12\n"
     )?;
-    expect_drawn(alloc, "shot\ncolors\nkey Esc\nshot\n", 9, &wanted)?;
+    expect_told(&found, &wanted)?;
+    let found = drawn(alloc, "shot\nshot\nshot\n", 1)?;
     let wanted = format!(in alloc;
-        "BESIDE-1.svg\n{focused}tvdlg: cannot write BESIDE-2.svg\nstatus 3\nopened 12\n"
+        "BESIDE-1.svg\n{FOCUSED}tvdlg: cannot write BESIDE-2.svg\nstatus 3\nopened 12\n"
     )?;
-    expect_drawn(alloc, "shot\nshot\nshot\n", 1, &wanted)
-}
-
-// A description, its script, for how many pictures there is room, and what is told where none is drawn.
-const UNDRAWN: [(&str, &str, usize, &str); 6] = [
-    (CANCEL, "key Tab\ncolors\n", 9, "status 0\nopened 12\n"),
-    (CANCEL, "", 0, "status 0\nopened 12\n"),
-    (
-        CANCEL,
-        "shot\n",
-        0,
-        "tvdlg: cannot write BESIDE-1.svg\nstatus 3\nopened 12\n",
-    ),
-    (
-        CANCEL,
-        "shot\nkey Foo\n",
-        9,
-        "tvdlg: BESIDE: syntax at line 2\nstatus 1\nopened 12\n",
-    ),
-    (
-        ORDER,
-        "shot\n",
-        9,
-        "tvdlg: view refused\nstatus 1\nopened 12\n",
-    ),
-    (
-        SHARED_LETTER,
-        "shot\n",
-        9,
-        "F4 line 8\nstatus 1\nopened 12\n",
-    ),
-];
-
-#[test]
-fn nothing_is_drawn(rt: HostRuntime) -> Result<(), Fail> {
-    for &(description, script, room, wanted) in &UNDRAWN {
-        let found = drawn(rt.alloc(), (description, script), room)?;
-        expect_told(&found, wanted)?;
-    }
-    Ok(())
-}
-
-// A script that can't be opened, and one that can't be read to its end.
-#[test]
-fn unread_scripts(rt: HostRuntime) -> Result<(), Fail> {
-    let alloc = rt.alloc();
-    let missing = Task::PictureAll {
-        file: Shelf::DESCRIPTION,
-        script: "NONE",
-    };
-    let files = Shelf::new(CANCEL, "");
-    let found = all_drawn(alloc, missing, files, 9)?;
-    expect_told(&found, "tvdlg: cannot read NONE\nstatus 3\nopened 13\n")?;
-    let files = Shelf::torn(CANCEL, "shot\n", Shelf::BESIDE);
-    let found = all_drawn(alloc, PICTURE_ALL, files, 9)?;
-    expect_told(&found, "tvdlg: cannot read BESIDE\nstatus 3\nopened 12\n")
+    expect_told(&found, &wanted)
 }
