@@ -17,8 +17,8 @@ type Outcome = Result<Checked, (Refusal, Desc)>;
 
 /// What a description and a certificate come to: `accepted`, or why they are refused.
 #[derive(Clone, Copy)]
-pub struct Accepting<'a> {
-    pub desc: &'a str,
+struct Accepting<'a> {
+    desc: &'a str,
 }
 
 impl Question for Accepting<'_> {

@@ -3,7 +3,7 @@
 ghost use Rattle.std.specs.Prelude.{IfOk};
 ghost use Rattle.tv_lang.specs.CanonicalDescription.{CanBeSpelled};
 
-use crate::tables::{Question, expect_answers, expect_row};
+use crate::tables::{Question, expect_row};
 use std::alloc::{AllocError, Global};
 use std::test::Fail;
 use tv_check::faults;
@@ -82,9 +82,4 @@ pub(crate) fn fault_told(alloc: Global, word: &str, fault: &Fault) -> Result<Str
 pub fn expect_finding(alloc: Global, text: &str, wanted: &str) -> Result<(), Fail> {
     let wanted = format!(in alloc; "{wanted}\n")?;
     expect_row(&Findings, alloc, text, &wanted)
-}
-
-/// Fails where in some description of a table something else is found than its row says.
-pub fn expect_findings(alloc: Global, before: &str, table: &str, after: &str) -> Result<(), Fail> {
-    expect_answers(&Findings, alloc, before, table, after)
 }

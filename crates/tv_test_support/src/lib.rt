@@ -10,7 +10,6 @@ pub mod certificates;
 mod certifying;
 pub mod descriptions;
 mod dialogs;
-pub mod examples;
 mod findings;
 pub mod large;
 mod planning;
@@ -18,13 +17,11 @@ mod printing;
 mod tables;
 mod writers;
 
-pub use accepting::{Accepting, AcceptingLater, expect_accepted};
+pub use accepting::{AcceptingLater, expect_accepted};
 pub use certifying::{Certifying, PrintingCertificate};
 pub use dialogs::FirstDialog;
-pub use findings::{Findings, Reading, expect_finding, expect_findings};
+pub use findings::{Findings, Reading, expect_finding};
 pub use planning::{Planning, PlanningWith};
 pub use printing::{Printing, expect_canonical};
-pub use tables::{
-    Question, expect_answer, expect_answers, expect_edits, expect_row, expect_rows, push_line,
-};
+pub use tables::{Question, expect_answer, expect_answers, expect_row, expect_rows};
 pub use writers::{Idle, Memory};

@@ -13,8 +13,7 @@ pub trait Question {
     fn answer(&self, alloc: Global, text: &[u8]) -> Result<String, Fail>;
 }
 
-/// Adds a line to a text.
-pub fn push_line(text: &mut String, line: &str) -> Result<(), AllocError> {
+fn push_line(text: &mut String, line: &str) -> Result<(), AllocError> {
     text.push_str(line)?;
     text.push_str("\n")
 }
@@ -132,64 +131,4 @@ fn judge<Q: Question>(
 ) -> Result<(), Fail> {
     let whole = format!(in alloc; "{before}{}{after}", row.text)?;
     expect_row(question, alloc, &whole, &row.wanted)
-}
-
-// An edit of a text, as far as it is read.
-#[derive(Drop)]
-struct Edit {
-    old: String,
-    new: String,
-}
-
-impl Edit {
-    fn new(alloc: Global) -> Edit {
-        Edit {
-            old: String::new(alloc),
-            new: String::new(alloc),
-        }
-    }
-
-    fn take_line(&mut self, line: &str) -> Result<(), Fail> {
-        if let Some(line) = line.strip_prefix("- ") {
-            return Ok(push_line(&mut self.old, line)?);
-        }
-        let line = line.strip_prefix("+ ").ok_or("no line of an edit")?;
-        Ok(push_line(&mut self.new, line)?)
-    }
-}
-
-/// Fails where after some edit of a text another answer is given than its row says.
-///
-/// An edit takes out the lines after `- `, where they stand first, and puts the lines after `+ ` in their place. One line
-/// after `=> ` ends it.
-pub fn expect_edits<Q: Question>(
-    question: &Q,
-    alloc: Global,
-    text: &str,
-    table: &str,
-) -> Result<(), Fail> {
-    let mut edit = Edit::new(alloc);
-    for line in Lines::new(table.as_bytes()) {
-        let line = str::from_utf8(line)?;
-        if let Some(wanted) = line.strip_prefix("=> ") {
-            judge_edit(question, alloc, text, &edit, wanted)?;
-            edit = Edit::new(alloc);
-        } else {
-            edit.take_line(line)?;
-        }
-    }
-    Ok(())
-}
-
-fn judge_edit<Q: Question>(
-    question: &Q,
-    alloc: Global,
-    text: &str,
-    edit: &Edit,
-    wanted: &str,
-) -> Result<(), Fail> {
-    let (before, after) = text.split_once(edit.old.as_str()).ok_or("nothing to edit")?;
-    let edited = format!(in alloc; "{before}{}{after}", edit.new)?;
-    let wanted = format!(in alloc; "{wanted}\n")?;
-    expect_row(question, alloc, &edited, &wanted)
 }
